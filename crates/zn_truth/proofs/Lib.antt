@@ -1,0 +1,11 @@
+pub mod Issuing
+pub mod Sound
+pub mod SoundLoss
+pub mod SoundIssue
+pub mod SoundInject
+pub mod OrderLists
+pub mod Losses
+pub mod LossesInside
+pub mod CutWrites
+pub mod LossReplies
+pub mod ArmedLosses

@@ -1,0 +1,14 @@
+pub mod Truth
+pub mod Limits
+pub mod Orders
+pub mod Loss
+pub mod World
+pub mod Power
+pub mod Inject
+pub mod Lists
+pub mod Laws
+pub mod SoundLaws
+pub mod OrderLaws
+pub mod Cases
+pub mod LossLaws
+pub mod Fresh
