@@ -1,0 +1,7 @@
+pub mod AdapterLaws
+pub mod DecimalLaws
+pub mod FewestRuns
+pub mod LaneLaws
+pub mod PartLaws
+pub mod RunLaws
+pub mod ToldLaws

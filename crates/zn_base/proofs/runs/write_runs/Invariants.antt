@@ -1,0 +1,14 @@
+use Rattle.std.proofs.Common.{◌≡◌, ◌≤◌, ◌-◌, length}
+use Rattle.zn_base.proofs.RunLaws.{RunsSoFar}
+use Rattle.zn_base.proofs.runs.write_runs.Given as goal
+
+-- the runs before this place are written
+abbrev pub invariant-loop-at : goal.invariant-loop-at
+invariant-loop-at g l = record {
+  within : l.at ≤ length l.bytes;
+  so_far : RunsSoFar (g.K.Sink.written l.fn.sink) (g.K.Sink.written l.sink) l.bytes l.at;
+  kept : g.K.Sink.faults l.sink ≡ g.K.Sink.faults l.fn.sink;
+}
+
+abbrev pub decreases-loop-at : goal.decreases-loop-at
+decreases-loop-at g l = length l.bytes - l.at

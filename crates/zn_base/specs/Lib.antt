@@ -1,0 +1,9 @@
+pub mod Adapters
+pub mod Causes
+pub mod Decimals
+pub mod Laws
+pub mod Memory
+pub mod Parts
+pub mod Runs
+pub mod Texts
+pub mod Told

@@ -1,0 +1,7 @@
+-- How texts are put together. (own)
+use Rattle.std.specs.Prelude.{ℕ, List, ◌++◌}
+
+-- one text before another, grouped to the right
+infixr 10 ◌⧺◌
+abbrev pub ◌⧺◌ : List ℕ → List ℕ → List ℕ
+front ⧺ rest = front ++ rest

@@ -1,0 +1,83 @@
+// Texts that are written whole.
+ghost use Rattle.std.specs.Prelude.{◌≡◌, ◌<◌};
+ghost use Rattle.std.specs.Fmt.{decimal};
+ghost use Rattle.zn_base.specs.Told.{Writes};
+ghost use Rattle.zn_base.specs.Parts.{part_text, text_of};
+ghost use Rattle.zn_base.specs.Runs.{hex, hex_digit};
+
+use crate::{Sink, WriteFault};
+use itoa::Buffer;
+
+/// Writes all of the bytes, or a front of them before a fault.
+pub fn write_all<K: Sink>(sink: &mut K, bytes: &[u8]) -> Result<(), WriteFault>
+    ensures { Writes (K.written sink.old) (K.written sink.new)
+        (K.faults sink.old) (K.faults sink.new) result bytes.now }
+{
+    let mut at = 0;
+    while at < bytes.len() {
+        match sink.write(&bytes[at..]) {
+            Ok(count) => at += count,
+            Err(fault) => return Err(fault),
+        }
+    }
+    Ok(())
+}
+
+/// Writes a number in decimal digits.
+pub fn write_number<K: Sink>(sink: &mut K, number: u64) -> Result<(), WriteFault>
+    ensures { Writes (K.written sink.old) (K.written sink.new)
+        (K.faults sink.old) (K.faults sink.new) result (decimal number) }
+{
+    let mut buffer = Buffer::new();
+    write_all(sink, buffer.format(number).as_bytes())
+}
+
+fn hex_digit(n: u8) -> u8
+    requires { n < 16 }
+    ensures { result ≡ hex_digit n }
+{
+    if n < 10 { b'0' + n } else { b'a' + (n - 10) }
+}
+
+fn write_hex<K: Sink>(sink: &mut K, byte: u8) -> Result<(), WriteFault>
+    ensures { Writes (K.written sink.old) (K.written sink.new)
+        (K.faults sink.old) (K.faults sink.new) result (hex byte) }
+{
+    write_all(sink, &[hex_digit(byte / 16), hex_digit(byte % 16)])
+}
+
+/// A part of a text.
+#[derive(Clone, Copy)]
+pub enum Part<'a> {
+    /// The text itself.
+    Text(&'a [u8]),
+    /// A number, in decimal digits.
+    Number(u64),
+    /// A byte, as two hexadecimal digits in lower case.
+    Hex(u8),
+}
+
+fn write_part<K: Sink>(sink: &mut K, part: &Part<'_>) -> Result<(), WriteFault>
+    ensures { Writes (K.written sink.old) (K.written sink.new)
+        (K.faults sink.old) (K.faults sink.new) result (part_text part.now) }
+{
+    match part {
+        Part::Text(text) => write_all(sink, text),
+        Part::Number(number) => write_number(sink, *number),
+        Part::Hex(byte) => write_hex(sink, *byte),
+    }
+}
+
+/// Writes the parts of a text, one after another.
+pub fn write_parts<K: Sink>(sink: &mut K, parts: &[Part<'_>]) -> Result<(), WriteFault>
+    ensures { Writes (K.written sink.old) (K.written sink.new)
+        (K.faults sink.old) (K.faults sink.new) result (text_of parts.now) }
+{
+    for part in parts {
+        match write_part(sink, part) {
+            Ok(()) => {}
+            Err(fault) => return Err(fault),
+        }
+    }
+    Ok(())
+}
