@@ -1,0 +1,98 @@
+-- Lines and numbers, and what they are read as. (own)
+use Rattle.std.specs.Prelude.{◌≡◌, [], ◌∷◌, Some, None, Ok, Err, codes}
+use Rattle.zn_model.specs.Lines.{Create, Rename, Chmod, Chown, Line, OpenFile, CloseFile, SizeOf, ReadFrom, WriteTo, StatOf, ListOf, Changes}
+use Rattle.zn_base.specs.Decimals.{number_in}
+use Rattle.zn_model.specs.Grammar.{last_offset, most_bytes, root, line_of, reading_of}
+use Rattle.zn_model.specs.LineTexts.{line_text}
+
+-- ---- lines
+
+abbrev pub open_both : Line
+open_both = OpenFile 0 (codes "seq/0") (record { 0 = 3 }) root
+
+abbrev pub read_last : Line
+read_last = ReadFrom 2047 last_offset most_bytes
+
+abbrev pub write_one : Line
+write_one = WriteTo 0 0 (record { byte = 0x61; count = 4096 } ∷ [])
+
+abbrev pub write_two : Line
+write_two = WriteTo 0 4096 (record { byte = 0x0a; count = 0 } ∷ record { byte = 0xff; count = 1 } ∷ [])
+
+-- lines that are read
+pub record LinesRead : Type 0 where
+  pub opening : line_of (codes "open 0 seq/0 rw") ≡ Ok open_both
+  pub close : line_of (codes "close 7") ≡ Ok (CloseFile 7)
+  pub size : line_of (codes "size 0") ≡ Ok (SizeOf 0)
+  pub read : line_of (codes "read 0 0 4096") ≡ Ok (ReadFrom 0 0 4096)
+  pub read_last : line_of (codes "read 2047 18446744073709551615 1048576") ≡ Ok read_last
+  pub write_one : line_of (codes "write 0 0 61*4096") ≡ Ok write_one
+  pub write_two : line_of (codes "write 0 4096 0a*0+ff*1") ≡ Ok write_two
+  pub stat : line_of (codes "stat /") ≡ Ok (StatOf (codes "/"))
+  pub listing : line_of (codes "list #") ≡ Ok (ListOf (codes "#"))
+  pub create : line_of (codes "create cnv/9") ≡ Ok (Changes Create)
+  pub rename : line_of (codes "rename cnv/0 cnv/1") ≡ Ok (Changes Rename)
+  pub chmod : line_of (codes "chmod cnv/0 438") ≡ Ok (Changes Chmod)
+  pub chown : line_of (codes "chown cnv/0 4294967295 0") ≡ Ok (Changes Chown)
+
+-- the texts of lines
+pub record LinesWritten : Type 0 where
+  pub opening : line_text open_both ≡ codes "open 0 seq/0 rw"
+  pub size : line_text (SizeOf 0) ≡ codes "size 0"
+  pub read : line_text (ReadFrom 0 0 4096) ≡ codes "read 0 0 4096"
+  pub read_last : line_text read_last ≡ codes "read 2047 18446744073709551615 1048576"
+  pub write_one : line_text write_one ≡ codes "write 0 0 61*4096"
+  pub write_two : line_text write_two ≡ codes "write 0 4096 0a*0+ff*1"
+
+-- ---- lines that are refused, each at the column of the first word that does not fit
+
+pub record VerbsRefused : Type 0 where
+  pub nothing : line_of [] ≡ Err 1
+  pub other : line_of (codes "sizes 0") ≡ Err 1
+  pub capital : line_of (codes "Size 0") ≡ Err 1
+  pub blank_before : line_of (codes " size 0") ≡ Err 1
+
+pub record WordsRefused : Type 0 where
+  pub missing_handle : line_of (codes "size") ≡ Err 5
+  pub two_blanks : line_of (codes "size  0") ≡ Err 6
+  pub leading_zero : line_of (codes "size 00") ≡ Err 6
+  pub handle_too_large : line_of (codes "size 2048") ≡ Err 6
+  pub blank_behind : line_of (codes "size 0 ") ≡ Err 8
+  pub one_too_many : line_of (codes "size 0 0") ≡ Err 8
+  pub missing_offset : line_of (codes "read 0") ≡ Err 7
+  pub offset_too_large : line_of (codes "read 0 18446744073709551616 0") ≡ Err 8
+  pub length_too_large : line_of (codes "read 0 0 1048577") ≡ Err 10
+  pub mode_the_other_way : line_of (codes "open 0 seq/0 wr") ≡ Err 14
+  pub path_not_printable : line_of (codes "stat a\tb") ≡ Err 6
+  pub user_too_large : line_of (codes "chown cnv/0 4294967296 0") ≡ Err 13
+
+pub record DataRefused : Type 0 where
+  pub half_a_byte : line_of (codes "write 0 0 6*1") ≡ Err 11
+  pub capital_digit : line_of (codes "write 0 0 6A*1") ≡ Err 11
+  pub no_count : line_of (codes "write 0 0 61*") ≡ Err 11
+  pub no_second_part : line_of (codes "write 0 0 61*1+") ≡ Err 11
+  pub count_too_large : line_of (codes "write 0 0 61*1048577") ≡ Err 11
+  pub counts_too_large : line_of (codes "write 0 0 61*1048576+62*1") ≡ Err 11
+
+-- ---- comments
+
+-- empty lines and comments have no reply; a comment does not stand behind blanks
+pub record CommentsRead : Type 0 where
+  pub nothing : reading_of [] ≡ Ok None
+  pub comment : reading_of (codes "# size 0") ≡ Ok None
+  pub mark : reading_of (codes "#") ≡ Ok None
+  pub line : reading_of (codes "size 0") ≡ Ok (Some (SizeOf 0))
+  pub blank_before : reading_of (codes " # size 0") ≡ Err 1
+
+-- ---- numbers
+
+-- the least and greatest numbers, and words that are none
+pub record NumbersRead : Type 0 where
+  pub least : number_in last_offset (codes "0") ≡ Some 0
+  pub greatest : number_in last_offset (codes "18446744073709551615") ≡ Some last_offset
+  pub one_more : number_in last_offset (codes "18446744073709551616") ≡ None
+  pub nothing : number_in last_offset [] ≡ None
+  pub two_zeros : number_in last_offset (codes "00") ≡ None
+  pub leading_zero : number_in last_offset (codes "01") ≡ None
+  pub sign : number_in last_offset (codes "+1") ≡ None
+  pub letter : number_in last_offset (codes "1a") ≡ None

@@ -1,0 +1,124 @@
+-- The calls that mount and unmount. ("filesystems/zonefs"; the commands that a mount issues are own)
+use Rattle.std.specs.Prelude.{Bool, false, ◌&&◌, not, ◌==◌, nat_lt, List, [], length, map, filter, if◌then◌else◌, Option, Some, None, Result, Ok, Err}
+use Rattle.std.specs.List.{range_with_len}
+use Rattle.zn_truth.specs.declared.DevError.{DevError}
+use Rattle.zn_truth.specs.declared.DevError.TheVariants.{ReadOnly, Offline, Unaligned, TooManyActive, TooManyOpen, BeyondWp, Fault, PowerLost, Broken, Memory}
+use Rattle.zn_truth.specs.declared.ZoneOp.TheVariants.{Close}
+use Rattle.zn_truth.specs.Truth.{Truth, geometry, zone_at, bytes_at, is_sequential, is_good}
+use Rattle.zn_truth.specs.Orders.{Order, ReadAt, Manage, Reply}
+use Rattle.zn_truth.specs.Lists.{issue_all}
+use Rattle.zn_truth.specs.World.{World, Outcome, issue}
+use Rattle.zn_model.specs.declared.files.MountOpts.{MountOpts}
+use Rattle.zn_model.specs.declared.answers.MountError.{MountError}
+use Rattle.zn_model.specs.declared.answers.MountError.TheVariants.{NotFormatted, IoError, PowerLost as no_power, Broken as is_broken, Memory as no_memory}
+use Rattle.zn_model.specs.declared.answers.SuperError.{SuperError}
+use Rattle.zn_model.specs.declared.answers.SuperError.TheVariants.{BadMagic, CopiesDiffer, BadVersion, BadField}
+use Rattle.zn_model.specs.declared.answers.Why.{Why}
+use Rattle.zn_model.specs.declared.answers.Why.TheVariants.{BadMagic as why_magic, CopiesDiffer as why_copies, BadVersion as why_version, BadField as why_field, Zone0NotFull}
+use Rattle.zn_model.specs.declared.answers.Refusal.{Refusal}
+use Rattle.zn_model.specs.declared.answers.Refusal.TheVariants.{Busy, PowerLost as refused_power}
+use Rattle.zn_model.specs.SuperBlock.{SuperBlock, decoded}
+use Rattle.zn_model.specs.ZoneFiles.{Layout, layout_of, files_of}
+use Rattle.zn_model.specs.ShownStates.{mounted_shown}
+use Rattle.zn_model.specs.Table.{Volume, Mounted, Inodes, Handles, Queue}
+use Rattle.zn_model.specs.Looks.{report_all}
+
+-- ---- mount
+
+pub record MountAnswer : Type 0 where
+  pub reply : Result Volume MountError
+  pub world : World
+
+-- a failure of the device, as a mount tells it
+abbrev pub mount_error_of : DevError → MountError
+mount_error_of ReadOnly = IoError
+mount_error_of Offline = IoError
+mount_error_of Unaligned = IoError
+mount_error_of TooManyActive = IoError
+mount_error_of TooManyOpen = IoError
+mount_error_of BeyondWp = IoError
+mount_error_of Fault = IoError
+mount_error_of PowerLost = no_power
+mount_error_of Broken = is_broken
+mount_error_of Memory = no_memory
+
+abbrev pub why_of : SuperError → Why
+why_of BadMagic = why_magic
+why_of (CopiesDiffer place) = why_copies place
+why_of (BadVersion version) = why_version version
+why_of (BadField place) = why_field place
+
+-- the super block's zone is sequential and not full
+abbrev pub is_zone0_unfull : Truth → Bool
+is_zone0_unfull t = is_sequential (zone_at t 0).kind && not ((zone_at t 0).held == t.shape.zone_capacity)
+
+-- what the two copies of the super block say
+abbrev pub super_block_of : Truth → Result SuperBlock SuperError
+super_block_of t = decoded (bytes_at t 0 0 1) (bytes_at t 0 1 1)
+
+-- the closes of the good zones that are explicitly open, in rising order
+abbrev pub closes : Truth → List Order
+closes t = map (λ z. Manage z Close) (filter (λ z. is_good (zone_at t z).cond && (zone_at t z).explicit) (range_with_len 0 (length t.zones)))
+
+abbrev pub fresh_handles : Handles
+fresh_handles = record { live = []; opened = 0 }
+
+abbrev pub fresh_queue : Queue
+fresh_queue = record { queued = []; finished = []; last_ticket = 0 }
+
+abbrev pub fresh_inodes : Truth → Layout → Inodes
+fresh_inodes t layout = record { layout = layout; shown = map (mounted_shown t) (files_of layout); read_only = false }
+
+-- a volume as a mount leaves it: every file shows what it holds, nothing is open or queued
+unfoldable pub fresh_volume : Truth → SuperBlock → MountOpts → Volume
+fresh_volume t super_block opts = record {
+  super_block = super_block;
+  policy = opts.policy;
+  explicit_open = opts.explicit_open;
+  inodes = fresh_inodes t (layout_of (geometry t) super_block.aggr_cnv);
+  handles = fresh_handles;
+  queue = fresh_queue;
+}
+
+abbrev pub mount_failed : DevError → World → MountAnswer
+mount_failed error w = record { reply = Err (mount_error_of error); world = w }
+
+abbrev pub not_formatted : Why → World → MountAnswer
+not_formatted why w = record { reply = Err (NotFormatted why); world = w }
+
+-- after the closes
+abbrev pub mount_closed : Outcome → Reply → Volume → MountAnswer
+mount_closed closed (Ok unit) volume = record { reply = Ok volume; world = closed.world }
+mount_closed closed (Err error) volume = mount_failed error closed.world
+
+-- what the copies say
+abbrev pub mount_decoded : Result SuperBlock SuperError → World → Truth → MountOpts → MountAnswer
+mount_decoded (Err error) w t opts = not_formatted (why_of error) w
+mount_decoded (Ok super_block) w t opts = mount_closed (issue_all w (closes t)) (issue_all w (closes t)).reply (fresh_volume t super_block opts)
+
+-- after the read of the copies
+abbrev pub mount_read : Outcome → Reply → Truth → MountOpts → MountAnswer
+mount_read copies (Ok unit) t opts = mount_decoded (super_block_of t) copies.world t opts
+mount_read copies (Err error) t opts = mount_failed error copies.world
+
+-- after the report
+abbrev pub mount_reported : Outcome → Reply → Truth → MountOpts → MountAnswer
+mount_reported reported (Err error) t opts = mount_failed error reported.world
+mount_reported reported (Ok unit) t opts =
+    if is_zone0_unfull t then not_formatted Zone0NotFull reported.world
+    else mount_read (issue reported.world (ReadAt 0 0 2)) (issue reported.world (ReadAt 0 0 2)).reply t opts
+
+-- Mounts: a report of all zones; a read of blocks 0 and 1 of zone 0, as one; a close of each good zone that
+-- is explicitly open. The first failure ends it.
+unfoldable pub mount_call : World → MountOpts → MountAnswer
+mount_call w opts = mount_reported (issue w (report_all w.truth)) (issue w (report_all w.truth)).reply w.truth opts
+
+-- ---- unmount
+
+-- What refuses an unmount: no power, or a handle that is open. Else the volume is dropped, with outcomes that
+-- aren't reaped, and no command is issued.
+unfoldable pub unmount_refusal : Mounted → Option Refusal
+unmount_refusal m =
+    if not m.world.powered then Some refused_power
+    else if nat_lt 0 (length m.volume.handles.live) then Some Busy
+    else None

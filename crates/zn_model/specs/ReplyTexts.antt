@@ -1,0 +1,184 @@
+-- The texts of replies. (own)
+use Rattle.std.specs.Prelude.{ℕ, ◌+◌, ◌/◌, ◌%◌, List, [], ◌∷◌, length, if◌then◌else◌, Result, Ok, Err, codes}
+use Rattle.std.specs.List.{flat_map, enumerate_from}
+use Rattle.std.specs.Fmt.{decimal}
+use Rattle.zn_base.specs.Runs.{data_text}
+use Rattle.zn_base.specs.Texts.{◌⧺◌}
+use Rattle.zn_truth.specs.declared.Cond.{Cond}
+use Rattle.zn_truth.specs.declared.Cond.TheVariants.{Good, ReadOnly as read_only, Offline as offline}
+use Rattle.zn_truth.specs.declared.InjectError.{InjectError}
+use Rattle.zn_truth.specs.declared.InjectError.TheVariants.{BadFault, TooManyFaults, PowerLost as inject_power_lost, Broken as inject_broken, Memory as inject_memory}
+use Rattle.zn_truth.specs.declared.Kind.{Kind}
+use Rattle.zn_truth.specs.declared.Kind.TheVariants.{Conventional, Sequential}
+use Rattle.zn_truth.specs.declared.ZoneInfo.{ZoneInfo}
+use Rattle.zn_truth.specs.Truth.{Geometry, room, kind_at}
+use Rattle.zn_model.specs.declared.answers.FormatError.{FormatError}
+use Rattle.zn_model.specs.declared.answers.FormatError.TheVariants.{AlreadyFormatted, BadZone0, IoError as format_io_error, PowerLost as format_power_lost, Broken as format_broken, Memory as format_memory}
+use Rattle.zn_model.specs.declared.answers.MountError.{MountError}
+use Rattle.zn_model.specs.declared.answers.MountError.TheVariants.{NotFormatted, IoError as mount_io_error, PowerLost as mount_power_lost, Broken as mount_broken, Memory as mount_memory}
+use Rattle.zn_model.specs.declared.answers.OptError.{OptError}
+use Rattle.zn_model.specs.declared.answers.OptError.TheVariants.{UnknownOption, Repeated, BadValue}
+use Rattle.zn_model.specs.declared.answers.Outcome.{Outcome}
+use Rattle.zn_model.specs.declared.answers.Outcome.TheVariants.{Ok as had_done, IoError as had_io_error, TooManyActive as had_too_many_active, TooManyOpen as had_too_many_open}
+use Rattle.zn_model.specs.declared.answers.Refusal.{Refusal}
+use Rattle.zn_model.specs.declared.answers.Refusal.TheVariants.{NoSuchFile, NotAllowed, Denied, FileOffline, FileReadOnly, FsReadOnly, BadHandle, BadMode, TooManyHandles, TooManyWriters, TooManyActive, TooManyOpen, Unaligned, TooBig, BadOffset, Busy, QueueFull, PoolEmpty, NothingQueued, NothingDone, IoError, PowerLost, Broken, Memory}
+use Rattle.zn_model.specs.declared.answers.Why.{Why}
+use Rattle.zn_model.specs.declared.answers.Why.TheVariants.{BadMagic, CopiesDiffer, BadVersion, BadField, Zone0NotFull, Zone0Offline}
+use Rattle.zn_model.specs.declared.files.Attr.{Attr}
+use Rattle.zn_model.specs.declared.files.Place.{Place}
+use Rattle.zn_model.specs.declared.files.Place.TheVariants.{Super, Cnv, Seq, Unplaced}
+use Rattle.zn_model.specs.declared.files.Stat.{Stat}
+use Rattle.zn_model.specs.declared.handles.Done.{Done}
+use Rattle.zn_model.specs.ZoneFiles.{cnv_path, seq_path}
+
+-- ---- names
+
+abbrev pub refusal_name : Refusal → List ℕ
+refusal_name NoSuchFile = codes "no-such-file"
+refusal_name NotAllowed = codes "not-allowed"
+refusal_name Denied = codes "denied"
+refusal_name FileOffline = codes "file-offline"
+refusal_name FileReadOnly = codes "file-read-only"
+refusal_name FsReadOnly = codes "fs-read-only"
+refusal_name BadHandle = codes "bad-handle"
+refusal_name BadMode = codes "bad-mode"
+refusal_name TooManyHandles = codes "too-many-handles"
+refusal_name TooManyWriters = codes "too-many-writers"
+refusal_name TooManyActive = codes "too-many-active"
+refusal_name TooManyOpen = codes "too-many-open"
+refusal_name Unaligned = codes "unaligned"
+refusal_name TooBig = codes "too-big"
+refusal_name BadOffset = codes "bad-offset"
+refusal_name Busy = codes "busy"
+refusal_name QueueFull = codes "queue-full"
+refusal_name PoolEmpty = codes "pool-empty"
+refusal_name NothingQueued = codes "nothing-queued"
+refusal_name NothingDone = codes "nothing-done"
+refusal_name IoError = codes "io-error"
+refusal_name PowerLost = codes "power-lost"
+-- these two end the run, and are never told as a reply
+refusal_name Broken = codes "broken"
+refusal_name Memory = codes "memory"
+
+abbrev pub cond_name : Cond → List ℕ
+cond_name Good = codes "good"
+cond_name read_only = codes "read-only"
+cond_name offline = codes "offline"
+
+abbrev pub why_name : Why → List ℕ
+why_name BadMagic = codes "bad-magic"
+why_name (CopiesDiffer place) = codes "copies-differ " ⧺ decimal place
+why_name (BadVersion version) = codes "bad-version " ⧺ decimal version
+why_name (BadField place) = codes "bad-field " ⧺ decimal place
+why_name Zone0NotFull = codes "zone0-not-full"
+why_name Zone0Offline = codes "zone0-offline"
+
+abbrev pub mount_error_name : MountError → List ℕ
+mount_error_name (NotFormatted why) = codes "not-formatted " ⧺ why_name why
+mount_error_name mount_io_error = codes "io-error"
+mount_error_name mount_power_lost = codes "power-lost"
+mount_error_name mount_broken = codes "broken"
+mount_error_name mount_memory = codes "memory"
+
+abbrev pub format_error_name : FormatError → List ℕ
+format_error_name AlreadyFormatted = codes "already-formatted"
+format_error_name (BadZone0 cond) = codes "bad-zone0 " ⧺ cond_name cond
+format_error_name format_io_error = codes "io-error"
+format_error_name format_power_lost = codes "power-lost"
+format_error_name format_broken = codes "broken"
+format_error_name format_memory = codes "memory"
+
+abbrev pub option_error_name : OptError → List ℕ
+option_error_name (UnknownOption place) = codes "unknown-option " ⧺ decimal place
+option_error_name (Repeated place) = codes "repeated-option " ⧺ decimal place
+option_error_name (BadValue place) = codes "bad-value " ⧺ decimal place
+
+abbrev pub inject_error_name : InjectError → List ℕ
+inject_error_name BadFault = codes "bad-fault"
+inject_error_name TooManyFaults = codes "too-many-faults"
+inject_error_name inject_power_lost = codes "power-lost"
+inject_error_name inject_broken = codes "broken"
+inject_error_name inject_memory = codes "memory"
+
+abbrev pub outcome_name : Outcome → List ℕ
+outcome_name had_done = codes "ok"
+outcome_name had_io_error = codes "io-error"
+outcome_name had_too_many_active = codes "too-many-active"
+outcome_name had_too_many_open = codes "too-many-open"
+
+-- ---- lines
+
+abbrev pub error_text : List ℕ → List ℕ
+error_text name = codes "error " ⧺ name ⧺ codes "\n"
+
+abbrev pub ok_text : List ℕ
+ok_text = codes "ok\n"
+
+abbrev pub number_text : ℕ → List ℕ
+number_text n = codes "ok " ⧺ decimal n ⧺ codes "\n"
+
+-- a reply, or the refusal's name
+abbrev pub reply_text : {X E : Type 0} → (X → List ℕ) → (E → List ℕ) → Result X E → List ℕ
+reply_text told name (Ok value) = told value
+reply_text told name (Err refusal) = error_text (name refusal)
+
+abbrev pub plain : Unit {0} → List ℕ
+plain unit = ok_text
+
+-- the bytes of a read: how many, and what they are
+abbrev pub read_text : List ℕ → List ℕ
+read_text [] = codes "ok 0\n"
+read_text (b ∷ bytes) = codes "ok " ⧺ decimal (length (b ∷ bytes)) ⧺ codes " " ⧺ data_text (b ∷ bytes) ⧺ codes "\n"
+
+abbrev pub done_text : Done → List ℕ
+done_text done = codes "ok " ⧺ decimal done.ticket ⧺ codes " " ⧺ outcome_name done.outcome ⧺ codes "\n"
+
+-- three octal digits
+abbrev pub octal_text : ℕ → List ℕ
+octal_text mode = (48 + mode / 64 % 8) ∷ (48 + mode / 8 % 8) ∷ (48 + mode % 8) ∷ []
+
+abbrev pub file_text : List ℕ → Stat → List ℕ
+file_text path stat =
+    codes "ok file " ⧺ path ⧺ codes " zone " ⧺ decimal stat.zone ⧺ codes " zones " ⧺ decimal stat.zones ⧺ codes " size " ⧺ decimal stat.size
+    ⧺ codes " blocks " ⧺ decimal stat.blocks ⧺ codes " mode " ⧺ octal_text stat.mode ⧺ codes " uid " ⧺ decimal stat.uid
+    ⧺ codes " gid " ⧺ decimal stat.gid ⧺ codes " writers " ⧺ decimal stat.writers ⧺ codes "\n"
+
+abbrev pub directory_text : List ℕ → Stat → List ℕ
+directory_text path stat = codes "ok dir " ⧺ path ⧺ codes " size " ⧺ decimal stat.size ⧺ codes "\n"
+
+abbrev pub stat_text : List ℕ → Stat → List ℕ
+stat_text path stat = if stat.dir then directory_text path stat else file_text path stat
+
+abbrev pub name_line : List ℕ → List ℕ
+name_line name = name ⧺ codes "\n"
+
+-- how many names, and each on a line
+abbrev pub list_text : List (List ℕ) → List ℕ
+list_text names = number_text (length names) ⧺ flat_map name_line names
+
+abbrev pub attr_text : Attr → List ℕ
+attr_text attr =
+    codes "ok max_wro_seq_files=" ⧺ decimal attr.max_wro ⧺ codes " nr_wro_seq_files=" ⧺ decimal attr.nr_wro
+    ⧺ codes " max_active_seq_files=" ⧺ decimal attr.max_active ⧺ codes " nr_active_seq_files=" ⧺ decimal attr.nr_active ⧺ codes "\n"
+
+-- ---- zones
+
+abbrev pub kind_name : Kind → List ℕ
+kind_name Conventional = codes "cnv"
+kind_name Sequential = codes "seq"
+
+abbrev pub place_name : Place → List ℕ
+place_name Super = codes "super"
+place_name (Cnv i) = cnv_path i
+place_name (Seq i) = seq_path i
+place_name Unplaced = codes "-"
+
+-- a zone: its number, kind, condition, the blocks that it holds and has room for, and where it is shown
+abbrev pub zone_line : Geometry → (ℕ → Place) → ℕ × ZoneInfo → List ℕ
+zone_line g place_of entry =
+    codes "zone " ⧺ decimal entry.0 ⧺ codes " " ⧺ kind_name (kind_at g entry.0) ⧺ codes " " ⧺ cond_name entry.1.cond ⧺ codes " "
+    ⧺ decimal entry.1.held ⧺ codes " " ⧺ decimal (room g.shape (kind_at g entry.0)) ⧺ codes " " ⧺ place_name (place_of entry.0) ⧺ codes "\n"
+
+-- how many zones, and each on a line
+abbrev pub zones_text : Geometry → (ℕ → Place) → List ZoneInfo → List ℕ
+zones_text g place_of infos = number_text (length infos) ⧺ flat_map (zone_line g place_of) (enumerate_from 0 infos)

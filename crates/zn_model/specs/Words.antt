@@ -1,0 +1,43 @@
+-- The words of a line, read one after another, each with the column where it begins. (own)
+use Rattle.std.specs.Prelude.{ℕ, ◌+◌, ◌-◌, ◌==◌, Bool, List, [], ◌∷◌, length, Option, Some, None, Result, Ok, Err}
+use Rattle.std.specs.List.{slice_split}
+
+abbrev pub is_blank : ℕ → Bool
+is_blank b = b == 32
+
+-- What is left of a line: its words, and the column where the first of them begins, or would.
+pub record Left : Type 0 where
+  pub column : ℕ
+  pub words : List (List ℕ)
+
+-- one reading after another: the first that does not fit decides the column
+infixl 10 ◌>>=◌
+abbrev pub ◌>>=◌ : {A B : Type 0} → Result A ℕ → (A → Result B ℕ) → Result B ℕ
+(Ok x) >>= f = f x
+(Err e) >>= f = Err e
+
+-- a value that a word gives, or the column where it does not fit
+abbrev pub or_column : {A : Type 0} → Option A → ℕ → Left → Result (A × Left) ℕ
+or_column None column left = Err column
+or_column (Some x) column left = Ok (x, left)
+
+-- the next word, read so; a missing word stands behind the line, whose last word no blank follows
+abbrev pub next_of : {A : Type 0} → (List ℕ → Option A) → ℕ → List (List ℕ) → Result (A × Left) ℕ
+next_of read column [] = Err (column - 1)
+next_of read column (word ∷ words) = or_column (read word) column (record { column = column + length word + 1; words = words })
+
+abbrev pub next : {A : Type 0} → (List ℕ → Option A) → Left → Result (A × Left) ℕ
+next read left = next_of read left.column left.words
+
+-- no word too many
+abbrev pub none_of : {A : Type 0} → A → ℕ → List (List ℕ) → Result A ℕ
+none_of value column [] = Ok value
+none_of value column (word ∷ words) = Err column
+
+-- the value, where no word is left
+abbrev pub no_more : {A : Type 0} → A → Left → Result A ℕ
+no_more value left = none_of value left.column left.words
+
+-- the words of a whole line, parted by single blanks
+abbrev pub words_of : List ℕ → Left
+words_of line = record { column = 1; words = slice_split is_blank line }
