@@ -1,0 +1,10 @@
+pub mod ByFacts
+pub mod Counts
+pub mod Refusals
+pub mod Steps
+pub mod CarriedOut
+pub mod Moved
+pub mod Start
+pub mod Truths
+pub mod Agrees
+pub mod Within
