@@ -1,0 +1,5 @@
+pub mod Begins
+pub mod Bytes
+pub mod Devices
+pub mod Places
+pub mod Stores

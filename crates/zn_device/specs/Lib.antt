@@ -1,0 +1,4 @@
+pub mod Causes
+pub mod Fresh
+pub mod Memory
+pub mod Seen
