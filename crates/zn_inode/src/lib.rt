@@ -1,0 +1,11 @@
+//! The files of a volume, what each shows, and what a recovery makes of it.
+#![tactic(auto)]
+
+mod inodes;
+mod shown;
+
+pub use inodes::Inodes;
+pub use shown::{
+    capacity, holds, makes_read_only, mounted_shown, policy_row, recovered_shown, room, worse,
+    worst,
+};

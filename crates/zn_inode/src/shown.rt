@@ -1,0 +1,121 @@
+// What a file shows, by what its zones tell.
+ghost use Rattle.std.specs.Prelude.{◌≡◌, ℕ, ◌*◌, ◌^◌, ◌<◌, ◌≤◌, length};
+ghost use Rattle.zn_model.specs.ZoneFiles.{room_of, capacity_of};
+ghost use Rattle.zn_model.specs.ShownStates.{policy_row as row_of, worst as worst_of, worse as worse_of, holds as holds_of, mounted_by, makes_read_only as policy_makes_read_only};
+ghost use Rattle.zn_model.specs.Recovery.{recovered_shown as shown_recovered};
+
+use zn_model::{FileZones, Found, Policy, Shown};
+use zn_truth::{Cond, ZoneInfo};
+
+/// The blocks that a file has room for.
+#[tactic(auto, using(crate::proofs::Rooms::room_below))]
+pub fn room(file: &FileZones) -> u64
+    ensures { result ≡ room_of file.now }
+{
+    u64::from(file.zones) * u64::from(file.room)
+}
+
+/// The bytes that a file has room for.
+pub fn capacity(file: &FileZones) -> u64
+    requires { capacity_of file.now < 2 ^ 64 }
+    ensures { result ≡ capacity_of file.now }
+{
+    4096 * room(file)
+}
+
+/// The row of the table of policies: sizes are in bytes.
+pub fn policy_row(policy: Policy, cond: Cond, held: u64, size: u64, stays_open: bool) -> Shown
+    ensures { result ≡ row_of policy cond held size stays_open }
+{
+    let (size, may_read, may_write) = match (policy, cond) {
+        (Policy::ZoneOffline, _) | (_, Cond::Offline) => (0, false, false),
+        (_, Cond::ReadOnly) => (size, true, false),
+        (Policy::Repair, Cond::Good) => (held, true, true),
+        (_, Cond::Good) => (held, true, false),
+    };
+    Shown {
+        size,
+        may_read,
+        may_write,
+        held_open: stays_open,
+    }
+}
+
+/// Whether each recovery makes the whole file system read-only.
+pub fn makes_read_only(policy: Policy) -> bool
+    ensures { result ≡ policy_makes_read_only policy }
+{
+    matches!(policy, Policy::RemountRo)
+}
+
+/// The worse of two conditions.
+pub fn worse(a: Cond, b: Cond) -> Cond
+    ensures { result ≡ worse_of a b }
+{
+    match (a, b) {
+        (Cond::Good, _) => b,
+        (Cond::ReadOnly, Cond::Offline) | (Cond::Offline, _) => Cond::Offline,
+        (Cond::ReadOnly, _) => Cond::ReadOnly,
+    }
+}
+
+/// The worst condition of zones.
+#[tactic(auto, using(crate::proofs::Conditions::worse_assoc, crate::proofs::Conditions::worse_good))]
+pub fn worst(infos: &[ZoneInfo]) -> Cond
+    ensures { result ≡ worst_of infos.now }
+{
+    let mut cond = Cond::Good;
+    for info in infos {
+        cond = worse(cond, info.cond);
+    }
+    cond
+}
+
+/// The blocks that zones hold.
+pub fn holds(infos: &[ZoneInfo]) -> u64
+    requires { length infos.now ≤ 4096 }
+    ensures sum { result ≡ holds_of infos.now }
+    ensures most { 4096 * result < 2 ^ 64 }
+{
+    let mut held = 0;
+    for info in infos {
+        held += u64::from(info.held);
+    }
+    held
+}
+
+/// What a mount shows of a file whose zones are these.
+pub fn mounted_shown(infos: &[ZoneInfo]) -> Shown
+    requires { length infos.now ≤ 4096 }
+    ensures { result ≡ mounted_by (worst_of infos.now) (4096 * holds_of infos.now) }
+{
+    match worst(infos) {
+        Cond::Good => Shown {
+            size: 4096 * holds(infos),
+            may_read: true,
+            may_write: true,
+            held_open: false,
+        },
+        Cond::ReadOnly | Cond::Offline => Shown {
+            size: 0,
+            may_read: false,
+            may_write: false,
+            held_open: false,
+        },
+    }
+}
+
+/// What a file shows after this was found of its zones.
+pub fn recovered_shown(policy: Policy, found: &Found, file: &FileZones, shown: &Shown) -> Shown
+    requires { 4096 * found.now.held < 2 ^ 64 }
+    ensures { result ≡ shown_recovered policy found.now file.now shown.now }
+{
+    let stays_open = shown.held_open && found.cond == Cond::Good && found.held != room(file);
+    policy_row(
+        policy,
+        found.cond,
+        4096 * found.held,
+        shown.size,
+        stays_open,
+    )
+}
