@@ -1,0 +1,5 @@
+pub mod Places
+pub mod Findings
+pub mod Readings
+pub mod Recoveries
+pub mod Sizes
