@@ -1,0 +1,6 @@
+pub mod Told
+pub mod Generations
+pub mod SlotSteps
+pub mod WriterLaws
+pub mod KeptLaws
+pub mod SequentialFiles
