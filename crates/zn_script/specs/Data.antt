@@ -1,0 +1,36 @@
+-- What a part of data means, and how long data is.
+use Rattle.std.specs.Prelude.{◌≡◌, ◌≤◌, ℕ, ◌+◌, List, ◌++◌, length, take, replicate, IsSome, Option, Some, None}
+use Rattle.zn_base.specs.Runs.{Run}
+use Rattle.zn_model.specs.Lines.{bytes_of}
+use Rattle.zn_model.specs.Grammar.{most_bytes, part_of, part_then, data_of}
+use Rattle.zn_script.specs.declared.data.Part.{Part}
+use Rattle.zn_script.specs.declared.Line.{Line}
+use Rattle.zn_script.specs.declared.Line.TheVariants.{Write}
+
+abbrev pub run_meant : Part → Run
+run_meant p = record { byte = p.byte; count = p.count }
+
+-- A part that has room behind so many bytes, and the run that it is.
+pub record PartFits (part : List ℕ) (total : ℕ) : Type 0 where
+  pub run : Run
+  pub read : part_of part ≡ Some run
+  pub room : total + run.count ≤ most_bytes
+
+-- behind so many bytes, no data begins with the part
+abbrev pub PartRefused : List ℕ → ℕ → Type 0
+PartRefused part total = (follows : ℕ → Option (List Run)) → part_then (part_of part) total follows ≡ None
+
+-- the bytes of a part are put behind those that are there, up to an end
+abbrev pub PartPut : List ℕ → ℕ → ℕ → List ℕ → List ℕ → Type 0
+PartPut part at end old new = (run : Run) × (part_of part ≡ Some run) × (end ≡ at + run.count) × (take end new ≡ take at old ++ replicate run.count run.byte)
+
+-- the word is data of so many bytes
+pub record HasLength (word : List ℕ) (n : ℕ) : Type 0 where
+  pub runs : List Run
+  pub read : data_of word ≡ Some runs
+  pub sized : length (bytes_of runs) ≡ n
+
+-- what a line writes is data
+abbrev pub WritesData : Line → Type 0
+WritesData (Write number offset word) = IsSome (data_of word.now)
+WritesData _ = Unit {0}

@@ -1,0 +1,4 @@
+pub mod Places
+pub mod Gives
+pub mod Meant
+pub mod Data
