@@ -1,0 +1,9 @@
+pub mod TranscriptLaws
+pub mod DecidedLaws
+pub mod LineLaws
+pub mod ProgressLaws
+pub mod RanLaws
+pub mod LastLaws
+pub mod ScriptLaws
+pub mod RunLaws
+pub mod ProbeLaws
