@@ -1,0 +1,73 @@
+-- The end of a handle, and what follows it.
+use Rattle.std.proofs.Common.{◌≡◌, ℕ, Bool, true, false, cond, List, [], ◌∷◌, Option, Some, None, Result, refl, sym, ap, ◌∙◌, subst}
+use Rattle.std.specs.Prelude.{find, option_map}
+use Rattle.std.proofs.lemmas.Bool.{and_parts, eqb-true}
+use Rattle.std.proofs.lemmas.Option.{same_Some, none-some}
+use Rattle.zn_model.specs.declared.handles.Handle.{Handle}
+use Rattle.zn_model.specs.declared.answers.Refusal.{Refusal}
+use Rattle.zn_model.specs.declared.answers.Refusal.TheVariants.{Busy, PowerLost}
+use Rattle.zn_model.specs.CallAnswers.{Answer, refused}
+use Rattle.zn_model.specs.Mounting.{fresh_queue}
+use Rattle.zn_model.specs.OpenClose.{close_call, close_by, close_now, ended}
+use Rattle.zn_model.specs.Table.{Mounted, Live, Handles, Queue, live_at, is_same_handle, is_queued_through, without_live}
+use Rattle.zn_handle.specs.declared.handles.Open.{Open}
+use Rattle.zn_handle.specs.Seen.{open_of}
+use Rattle.zn_volume.specs.Seen.{Seen}
+use Rattle.zn_volume.specs.Closing.{Closes, held_closed, zone_closed}
+
+-- what is found passes
+find_passes : {X : Type 0} (p : X → Bool) (xs : List X) (x : X) → find p xs ≡ Some x → p x ≡ true
+find_passes p [] x h = absurd (none-some x h)
+find_passes {X = X} p (y ∷ ys) x h = elim (p y) as (λ (b : Bool). p y ≡ b → cond b (Some y) (find p ys) ≡ Some x → p x ≡ true) [
+  | true ↦ λ e found. subst (λ (z : X). p z ≡ true) (same_Some y x found) e
+  | false ↦ λ e found. find_passes p ys x found
+] refl h
+
+same_handle : (a b : Handle) → a.key ≡ b.key → a.generation ≡ b.generation → a ≡ b
+same_handle a b key generation =
+    ap (λ (k : ℕ). let h : Handle = record { key = k; generation = a.generation } in h) key ∙ ap (λ (g : ℕ). let h : Handle = record { key = b.key; generation = g } in h) generation
+
+-- the live handle that is found is the very one
+pub live_is : (handles : Handles) (h : Handle) (live : Live) → live_at handles h ≡ Some live → live.handle ≡ h
+live_is handles h live found =
+    let parts = and_parts _ _ (find_passes (λ (live : Live). is_same_handle live.handle h) handles.live live found) in
+    same_handle live.handle h (eqb-true live.handle.key h.key parts.0) (eqb-true live.handle.generation h.generation parts.1)
+
+-- a close without requests, by the table without the handle
+close_is : (m : Mounted) (live : Live) → m.volume.queue ≡ fresh_queue → close_by (Some live) m ≡ zone_closed (open_of live) (ended m live.handle)
+unfolding close_now held_closed
+close_is m live none = ap (λ (queue : Queue). cond (is_queued_through queue live.handle) (refused Busy m) (close_now m live)) none
+
+from_live : (m : Mounted) (h : Handle) (on : Open) (result : Result (Unit {0}) Refusal) (new : Mounted) (o : Option Live)
+    → live_at m.volume.handles h ≡ o → option_map open_of o ≡ Some on → m.volume.queue ≡ fresh_queue → Closes on result (ended m h) new
+    → (result ≡ (close_by o m).reply) × (new ≡ (close_by o m).mounted)
+from_live m h on result new None found none queue closes = absurd (none-some on none)
+from_live m h on result new (Some live) found some queue closes =
+    let same : live.handle ≡ h = live_is m.volume.handles h live found in
+    let opened : open_of live ≡ on = same_Some (open_of live) on some in
+    let all : close_by (Some live) m ≡ zone_closed on (ended m h) =
+    close_is m live queue ∙ ap (λ (g : Handle). zone_closed (open_of live) (ended m g)) same ∙ ap (λ (o : Open). zone_closed o (ended m h)) opened in
+    (closes.reply ∙ ap (λ (a : Answer (Unit {0})). a.reply) (sym all), closes.mounted ∙ ap (λ (a : Answer (Unit {0})). a.mounted) (sym all))
+
+pub record IsClosed (m : Mounted) (h : Handle) (result : Result (Unit {0}) Refusal) (new : Mounted) : Type 0 where
+  pub reply : result ≡ (close_call m h).reply
+  pub mounted : new ≡ (close_call m h).mounted
+
+closed_by : (m : Mounted) (h : Handle) (result : Result (Unit {0}) Refusal) (new : Mounted) (powered : Bool)
+    → m.world.powered ≡ powered → powered ≡ true → (result ≡ (close_by (live_at m.volume.handles h) m).reply) × (new ≡ (close_by (live_at m.volume.handles h) m).mounted) → IsClosed m h result new
+unfolding close_call
+closed_by m h result new powered is on_now both =
+    let call : close_call m h ≡ close_by (live_at m.volume.handles h) m = ap (λ (b : Bool). cond b (close_by (live_at m.volume.handles h) m) (refused PowerLost m)) (is ∙ on_now) in
+    record {
+      reply = both.0 ∙ ap (λ (a : Answer (Unit {0})). a.reply) (sym call);
+      mounted = both.1 ∙ ap (λ (a : Answer (Unit {0})). a.mounted) (sym call);
+    }
+
+-- what a handle's end and the zone's close make is what the call does
+pub closed : (v now : Seen) (h : Handle) (on : Open) (after : Handles) (result : Result (Unit {0}) Refusal) (new : Mounted) (powered : Bool) → v ≡ now
+    → v.mounted.world.powered ≡ powered → powered ≡ true → option_map open_of (live_at v.mounted.volume.handles h) ≡ Some on → v.mounted.volume.queue ≡ fresh_queue
+    → after ≡ without_live v.mounted.volume.handles h → Closes on result (record v.mounted { volume = record v.mounted.volume { handles = after } }) new → IsClosed now.mounted h result new
+closed v now h on after result new powered same is on_now some queue rest closes =
+    let ends = subst (λ (handles : Handles). Closes on result (record v.mounted { volume = record v.mounted.volume { handles = handles } }) new) rest closes in
+    let both = from_live v.mounted h on result new (live_at v.mounted.volume.handles h) refl some queue ends in
+    subst (λ (s : Seen). IsClosed s.mounted h result new) same (closed_by v.mounted h result new powered is on_now both)

@@ -1,0 +1,62 @@
+-- The sequential files that are open for writing.
+use Rattle.std.proofs.Common.{◌≡◌, ℕ, zero, suc, ◌+◌, ◌-◌, ◌<◌, ◌≤◌, Bool, false, cond, List, ◌∷◌, length, refl, sym, ap, ◌∙◌, subst, arith, add-zero, zero-add, count_by, length-append}
+use Rattle.std.specs.Prelude.{◌&&◌, nat_lt}
+use Rattle.std.specs.List.{range_with_len}
+use Rattle.std.proofs.lemmas.List.Sums.{sum_by-cons}
+use Rattle.zn_truth.specs.World.{World}
+use Rattle.zn_model.specs.ZoneFiles.{files_of}
+use Rattle.zn_model.specs.Table.{Inodes, file_at, writers_of}
+use Rattle.zn_handle.specs.Seen as handles
+use Rattle.zn_volume.specs.Seen.{Agrees}
+
+count_cons : (p : ℕ → Bool) (a : ℕ) (xs : List ℕ) → count_by p (a ∷ xs) ≡ cond (p a) 1 0 + count_by p xs
+count_cons p a xs = sum_by-cons (λ n. cond (p n) 1 0) a xs
+
+-- a count over a range, of what two tests agree on
+count_alike : (p q : ℕ → Bool) (a n : ℕ) → ((i : ℕ) → i < n → p (a + i) ≡ q (a + i)) → count_by p (range_with_len a n) ≡ count_by q (range_with_len a n)
+count_alike p q a zero h = refl
+count_alike p q a (suc n) h =
+    let head : p a ≡ q a = subst (λ (z : ℕ). p z ≡ q z) (add-zero a) (h 0 (omega arith)) in
+    let rest = count_alike p q (a + 1) n (λ i below. let e : a + (i + 1) ≡ a + 1 + i = omega arith in subst (λ (z : ℕ). p z ≡ q z) e (h (i + 1) (omega arith))) in
+    count_cons p a (range_with_len (a + 1) n) ∙ ap (λ (b : Bool). cond b 1 0 + count_by p (range_with_len (a + 1) n)) head
+    ∙ ap (λ (k : ℕ). cond (q a) 1 0 + k) rest ∙ sym (count_cons q a (range_with_len (a + 1) n))
+
+count_none : (a n : ℕ) → count_by (λ k. false) (range_with_len a n) ≡ 0
+count_none a zero = refl
+count_none a (suc n) = omega (arith, count_cons (λ k. false) a (range_with_len (a + 1) n), count_none (a + 1) n)
+
+-- a range in two parts
+count_split : (p : ℕ → Bool) (a m n : ℕ) → count_by p (range_with_len a (m + n)) ≡ count_by p (range_with_len a m) + count_by p (range_with_len (a + m) n)
+count_split p a zero n =
+    let e : zero + n ≡ n = omega arith in
+    let b : a + zero ≡ a = omega arith in
+    ap (λ (k : ℕ). count_by p (range_with_len a k)) e ∙ sym (zero-add (count_by p (range_with_len a n))) ∙ ap (λ (z : ℕ). 0 + count_by p (range_with_len z n)) (sym b)
+count_split p a (suc m) n =
+    let e : suc m + n ≡ suc (m + n) = omega arith in
+    let b : a + suc m ≡ a + 1 + m = omega arith in
+    let rest = count_split p (a + 1) m n in
+    let x = count_cons p a (range_with_len (a + 1) (m + n)) in
+    let y = count_cons p a (range_with_len (a + 1) m) in
+    let z : count_by p (range_with_len (a + 1 + m) n) ≡ count_by p (range_with_len (a + suc m) n) = ap (λ (k : ℕ). count_by p (range_with_len k n)) (sym b) in
+    ap (λ (k : ℕ). count_by p (range_with_len a k)) e ∙ (omega (arith, rest, x, y, z))
+
+-- what the handles count is what the table counts
+pub wro_alike : (w : World) (inodes : Inodes) (seen : handles.Seen) (infos scratch : ℕ) → Agrees w inodes seen infos scratch
+    → handles.wro_of seen ≡ count_by (λ f. (file_at inodes f).sequential && nat_lt 0 (writers_of seen.handles f)) (range_with_len 0 (length (files_of inodes.layout)))
+wro_alike w inodes seen infos scratch agrees =
+    let p : ℕ → Bool = λ f. (file_at inodes f).sequential && nat_lt 0 (writers_of seen.handles f) in
+    let q : ℕ → Bool = λ f. nat_lt 0 (writers_of seen.handles f) in
+    let n = length (files_of inodes.layout) in
+    let within : seen.cnv ≤ n = omega (arith, agrees.cnv, length-append inodes.layout.cnv inodes.layout.seq) in
+    let parts : seen.cnv + (n - seen.cnv) ≡ n = omega arith in
+    let first : count_by p (range_with_len 0 seen.cnv) ≡ 0 =
+    count_alike p (λ k. false) 0 seen.cnv (λ i below. let e : 0 + i ≡ i = omega arith in
+    subst (λ (k : ℕ). p k ≡ false) (sym e) (ap (λ (b : Bool). b && q i) (agrees.conventional i (omega (arith, agrees.cnv))))) ∙ count_none 0 seen.cnv in
+    let rest : count_by p (range_with_len seen.cnv (n - seen.cnv)) ≡ count_by q (range_with_len seen.cnv (n - seen.cnv)) =
+    count_alike p q seen.cnv (n - seen.cnv) (λ i below. ap (λ (b : Bool). b && q (seen.cnv + i)) (agrees.sequential (seen.cnv + i) (omega (arith, agrees.cnv)) (omega arith))) in
+    let at : 0 + seen.cnv ≡ seen.cnv = omega arith in
+    let split : count_by p (range_with_len 0 n) ≡ count_by p (range_with_len 0 seen.cnv) + count_by p (range_with_len (0 + seen.cnv) (n - seen.cnv)) =
+    ap (λ (k : ℕ). count_by p (range_with_len 0 k)) (sym parts) ∙ count_split p 0 seen.cnv (n - seen.cnv) in
+    let moved : count_by p (range_with_len (0 + seen.cnv) (n - seen.cnv)) ≡ count_by p (range_with_len seen.cnv (n - seen.cnv)) = ap (λ (k : ℕ). count_by p (range_with_len k (n - seen.cnv))) at in
+    let known : count_by q (range_with_len seen.cnv (seen.files - seen.cnv)) ≡ count_by q (range_with_len seen.cnv (n - seen.cnv)) = ap (λ (k : ℕ). count_by q (range_with_len seen.cnv (k - seen.cnv))) agrees.known in
+    omega (arith, first, rest, split, moved, known)

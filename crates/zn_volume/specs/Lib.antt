@@ -1,0 +1,7 @@
+pub mod Bare
+pub mod Seen
+pub mod Means
+pub mod Closing
+pub mod Causes
+pub mod Mounts
+pub mod Paths

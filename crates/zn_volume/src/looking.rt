@@ -1,0 +1,142 @@
+// Calls that look, and the changes that are never allowed.
+ghost use Rattle.std.specs.Prelude.{◌≡◌, ◌<◌, ◌≤◌, length, false, option_map, All, AllPairs};
+ghost use Rattle.zn_model.specs.ZoneFiles.{files_of, listing_of};
+ghost use Rattle.zn_model.specs.Table.{max_handles};
+ghost use Rattle.zn_model.specs.Looks.{stat_call, entries_call, file_stat, directory_stat, mode_of as shown_mode, change_refusal};
+ghost use Rattle.zn_model.specs.Access.{unwritable as without_write};
+ghost use Rattle.zn_volume.specs.Means.{spoils};
+
+use crate::paths::entries_of_path;
+use crate::volume::Volume;
+use zn_device::Zoned;
+use zn_inode::room;
+use zn_model::{Refusal, Shown, Stat};
+
+/// An octal digit without the right to write.
+fn unwritable(digit: u32) -> u32
+    requires { digit < 8 }
+    ensures value { result ≡ without_write digit }
+    ensures small { result < 8 }
+{
+    digit / 4 % 2 * 4 + digit % 2
+}
+
+/// The permissions that `stat` tells of a file.
+fn mode_of(perm: u32, shown: &Shown) -> u32
+    ensures { result ≡ shown_mode perm shown.now }
+{
+    if !shown.may_read {
+        0
+    } else if shown.may_write {
+        perm
+    } else {
+        unwritable(perm / 64 % 8) * 64 + unwritable(perm / 8 % 8) * 8 + unwritable(perm % 8)
+    }
+}
+
+impl<D: Zoned + Drop> Volume<D> {
+    /// What is told of the file or directory of a path.
+    ///
+    /// Refused as `PowerLost` without power, and as `NoSuchFile` where there is none.
+    #[tactic(auto, unfolding(zn_model::specs::Looks::stat_call))]
+    pub fn stat(&self, path: &[u8]) -> Result<Stat, Refusal>
+        ensures reply { result ≡ (stat_call self.now.mounted path.now).reply }
+        ensures told { spoils result ≡ false }
+    {
+        if !self.dev.powered() {
+            return Err(Refusal::PowerLost);
+        }
+        if let Some(entries) = self.entries_of(path) {
+            return Ok(directory_stat(entries));
+        }
+        match self.file_of(path) {
+            Some(f) => Ok(self.file_stat(f)),
+            None => Err(Refusal::NoSuchFile),
+        }
+    }
+
+    fn file_stat(&self, f: u32) -> Stat
+        requires { f < length (files_of self.now.mounted.volume.inodes.layout) }
+        ensures { result ≡ file_stat self.now.mounted.volume f }
+    {
+        let file = self.inodes.file(f);
+        let shown = self.inodes.shown(f);
+        Stat {
+            dir: false,
+            zone: file.first,
+            zones: file.zones,
+            size: shown.size,
+            blocks: 8 * room(&file),
+            mode: mode_of(self.perm, &shown),
+            uid: self.owner.uid,
+            gid: self.owner.gid,
+            writers: self.handles.writers(f),
+        }
+    }
+
+    /// How many entries the directory of a path has, where it is one.
+    fn entries_of(&self, path: &[u8]) -> Option<u32>
+        ensures { result ≡ option_map length (listing_of self.now.mounted.volume.inodes.layout path.now) }
+    {
+        let cnv = self.inodes.cnv_files();
+        entries_of_path(path, cnv, self.inodes.files() - cnv)
+    }
+
+    /// The number of entries of the directory of a path.
+    ///
+    /// Refused as `PowerLost` without power, and as `NoSuchFile` where it isn't one.
+    #[tactic(auto, unfolding(zn_model::specs::Looks::entries_call))]
+    pub fn entries(&self, path: &[u8]) -> Result<u32, Refusal>
+        ensures reply { result ≡ (entries_call self.now.mounted path.now).reply }
+        ensures told { spoils result ≡ false }
+    {
+        if !self.dev.powered() {
+            return Err(Refusal::PowerLost);
+        }
+        self.entries_of(path).ok_or(Refusal::NoSuchFile)
+    }
+
+    /// How many files `cnv` has, and how many `seq`.
+    pub fn files(&self) -> (u32, u32)
+        ensures cnv { result.0 ≡ length self.now.mounted.volume.inodes.layout.cnv }
+        ensures seq { result.1 ≡ length self.now.mounted.volume.inodes.layout.seq }
+    {
+        let cnv = self.inodes.cnv_files();
+        (cnv, self.inodes.files() - cnv)
+    }
+
+    /// How many handles are live.
+    pub fn live(&self) -> u32
+        ensures count { result ≡ length self.now.mounted.volume.handles.live }
+        ensures limit { result ≤ max_handles }
+
+        // Each has a generation of its own, below the next one, and those opened later have greater ones.
+        ensures older { All (λ live. live.handle.generation < self.now.mounted.volume.handles.opened) self.now.mounted.volume.handles.live }
+        ensures rising { AllPairs (λ a b. a.handle.generation < b.handle.generation) self.now.mounted.volume.handles.live }
+    {
+        self.handles.live()
+    }
+
+    /// A change of names or attributes is always refused, as `NotAllowed`.
+    pub fn change(&self) -> Refusal
+        ensures { result ≡ change_refusal }
+    {
+        Refusal::NotAllowed
+    }
+}
+
+fn directory_stat(entries: u32) -> Stat
+    ensures { result ≡ directory_stat entries }
+{
+    Stat {
+        dir: true,
+        zone: 0,
+        zones: 0,
+        size: u64::from(entries),
+        blocks: 0,
+        mode: 0,
+        uid: 0,
+        gid: 0,
+        writers: 0,
+    }
+}
