@@ -31,9 +31,11 @@ hex_digit n = if nat_lt n 10 then 48 + n else 87 + n
 abbrev pub hex : ℕ → List ℕ
 hex b = hex_digit (b / 16) ∷ hex_digit (b % 16) ∷ []
 
+-- the byte as two hexadecimal digits, an asterisk, and the count in decimal digits
 abbrev pub run_text : Run → List ℕ
 run_text run = hex run.byte ⧺ codes "*" ⧺ decimal run.count
 
+-- the same behind a plus sign
 abbrev pub plus_run : Run → List ℕ
 plus_run run = codes "+" ⧺ run_text run
 

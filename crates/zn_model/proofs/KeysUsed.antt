@@ -33,7 +33,7 @@ found_behind : {X : Type 0} (b : Bool) (x : X) (short long : Option X) → is_so
 found_behind true x short long h rest = refl
 found_behind false x short long h rest = rest h
 
-found_in_longer : {X : Type 0} (p : X → Bool) (xs ys : List X) → is_some (find p xs) ≡ true → is_some (find p (xs ++ ys)) ≡ true
+pub found_in_longer : {X : Type 0} (p : X → Bool) (xs ys : List X) → is_some (find p xs) ≡ true → is_some (find p (xs ++ ys)) ≡ true
 found_in_longer p [] ys h = absurd (cc h)
 found_in_longer p (x ∷ xs) ys h = found_behind (p x) x (find p xs) (find p (xs ++ ys)) h (found_in_longer p xs ys)
 
@@ -104,7 +104,7 @@ open_once m key path mode who once =
 -- ---- close
 
 -- a handle that is live stays so where another ends
-still_live : (handles : Handles) (h other : Handle) → is_same_handle other h ≡ false → is_some (live_at handles other) ≡ true → is_some (live_at (without_live handles h) other) ≡ true
+pub still_live : (handles : Handles) (h other : Handle) → is_same_handle other h ≡ false → is_some (live_at handles other) ≡ true → is_some (live_at (without_live handles h) other) ≡ true
 still_live handles h other differs = found_in_filter (λ (live : Live). is_same_handle live.handle other) (λ (live : Live). not (is_same_handle live.handle h)) handles.live
     (λ live same. ap (λ (v : Handle). not (is_same_handle v h)) (same_handle live.handle other same) ∙ not_from_false (is_same_handle other h) differs)
 

@@ -3,9 +3,11 @@ use Rattle.std.specs.Prelude.{ℕ, ◌+◌, ◌*◌, ◌/◌, ◌%◌, Bool, ◌
 use Rattle.zn_model.specs.declared.handles.Mode.{Mode}
 use Rattle.zn_model.specs.declared.handles.Who.{Who}
 
+-- a handle of this mode may read: the bit of value 1 is set
 abbrev pub reads : Mode → Bool
 reads mode = bit_and mode.0 1 == 1
 
+-- a handle of this mode may write: the bit of value 2 is set
 abbrev pub writes : Mode → Bool
 writes mode = bit_and mode.0 2 == 2
 

@@ -11,12 +11,15 @@ pub record Answer (X : Type 0) : Type 0 where
   pub reply : Result X Refusal
   pub mounted : Mounted
 
+-- a refusal, and what is left
 abbrev pub refused : {X : Type 0} → Refusal → Mounted → Answer X
 refused refusal m = record { reply = Err refusal; mounted = m }
 
+-- a value, and what is left
 abbrev pub answered : {X : Type 0} → X → Mounted → Answer X
 answered value m = record { reply = Ok value; mounted = m }
 
+-- what follows a failed command, as a call's answer
 abbrev pub as_answer : {X : Type 0} → Failed → Answer X
 as_answer after = refused after.refusal after.mounted
 
@@ -44,9 +47,11 @@ abbrev pub or_else : Option Refusal → Option Refusal → Option Refusal
 or_else (Some refusal) second = Some refusal
 or_else None second = second
 
+-- a check's refusal as a reply that ends the call; none where the check passed
 abbrev pub as_refused : {X : Type 0} → Option Refusal → Option (Result X Refusal)
 as_refused None = None
 as_refused (Some refusal) = Some (Err refusal)
 
+-- refused as busy while a request waits
 abbrev pub check_busy : Bool → Option Refusal
 check_busy queued = if queued then Some Busy else None

@@ -27,6 +27,7 @@ pub record IsFormatted (t : Truth) (s : SuperBlock) : Type 0 where
 
 -- ---- the orders
 
+-- the 4096 bytes of a block, all 0
 abbrev pub zero_block : List ℕ
 zero_block = replicate 4096 0
 
@@ -52,6 +53,7 @@ format_orders t s = empties (is_sequential (zone_at t 0).kind) ++ resets t ++ co
 
 -- ---- the call
 
+-- what a format answers, and the device that it leaves
 pub record FormatAnswer : Type 0 where
   pub reply : Result (Unit {0}) FormatError
   pub world : World
@@ -69,13 +71,16 @@ format_error_of PowerLost = no_power
 format_error_of Broken = is_broken
 format_error_of Memory = no_memory
 
+-- an error, and the device that is left
 abbrev pub format_refused : FormatError → World → FormatAnswer
 format_refused error w = record { reply = Err error; world = w }
 
+-- after the orders: done, or the failure of the one that failed
 abbrev pub format_ends : Outcome → Reply → FormatAnswer
 format_ends outcome (Ok unit) = record { reply = Ok tt; world = outcome.world }
 format_ends outcome (Err error) = format_refused (format_error_of error) outcome.world
 
+-- the orders, one after another, up to the first that fails
 abbrev pub format_writes : World → Truth → SuperBlock → FormatAnswer
 format_writes w t s = format_ends (issue_all w (format_orders t s)) (issue_all w (format_orders t s)).reply
 
@@ -90,11 +95,13 @@ format_read found (Ok unit) t s force =
     if is_ok (super_block_of t) && not force then format_refused AlreadyFormatted found.world
     else format_writes found.world t s
 
+-- zone 0 is good: where blocks 0 and 1 may hold a super block they are read before anything is written
 abbrev pub format_good : World → Truth → SuperBlock → Bool → FormatAnswer
 format_good w t s force =
     if may_hold_copies t then format_read (issue w (ReadAt 0 0 2)) (issue w (ReadAt 0 0 2)).reply t s force
     else format_writes w t s
 
+-- a zone 0 that is read-only or offline is refused, with its condition
 abbrev pub format_by : Cond → World → Truth → SuperBlock → Bool → FormatAnswer
 format_by Good w t s force = format_good w t s force
 format_by read_only w t s force = format_refused (BadZone0 read_only) w

@@ -23,9 +23,11 @@ last_number = 2047
 abbrev pub last_offset : ℕ
 last_offset = 18446744073709551615
 
+-- 1 MiB: no line reads or writes more
 abbrev pub most_bytes : ℕ
 most_bytes = 1048576
 
+-- the greatest mode, user and group: the greatest number of 32 bits
 abbrev pub last_u32 : ℕ
 last_u32 = 4294967295
 
@@ -39,6 +41,7 @@ is_hex b = (nat_le 48 b && nat_le b 57) || (nat_le 97 b && nat_le b 102)
 abbrev pub hex_worth : ℕ → ℕ
 hex_worth b = if nat_le b 57 then b - 48 else b - 87
 
+-- a run of the byte, where its count could be read
 abbrev pub counted : ℕ → Option ℕ → Option Run
 counted byte None = None
 counted byte (Some count) = Some (record { byte = byte; count = count })
@@ -51,6 +54,7 @@ part_of (high ∷ low ∷ []) = None
 part_of (high ∷ low ∷ star ∷ digits) =
     if is_hex high && is_hex low && (star == 42) then counted (hex_worth high * 16 + hex_worth low) (number_in most_bytes digits) else None
 
+-- the byte `+`, which joins parts
 abbrev pub is_plus : ℕ → Bool
 is_plus b = b == 43
 
@@ -64,6 +68,7 @@ abbrev pub part_then : Option Run → ℕ → (ℕ → Option (List Run)) → Op
 part_then None total follows = None
 part_then (Some run) total follows = if nat_le (total + run.count) most_bytes then run_then run (follows (total + run.count)) else None
 
+-- the runs of parts, behind so many bytes; none where a part is faulty or all counts together are too many
 unfoldable pub parts_on : ℕ → List (List ℕ) → Option (List Run)
 parts_on total [] = Some []
 parts_on total (part ∷ parts) = part_then (part_of part) total (λ more. parts_on more parts)
@@ -74,6 +79,7 @@ data_of word = parts_on 0 (slice_split is_plus word)
 
 -- ---- paths and modes
 
+-- an ASCII byte from `!` to `~`, so no blank
 abbrev pub is_printable : ℕ → Bool
 is_printable b = nat_le 0x21 b && nat_le b 0x7E
 
@@ -111,6 +117,7 @@ pub data Verb : Type 0 where
   ChangingMode : Verb
   ChangingOwner : Verb
 
+-- each verb by its word; any other word is none
 unfoldable pub verb_of : List ℕ → Option Verb
 verb_of word =
     if bytes_eq word (codes "open") then Some Open
@@ -203,6 +210,7 @@ chown_line left = do
   gid ← next (number_in last_u32) uid.1
   no_more (Changes Chown) gid.1
 
+-- what stands behind a verb is read by the form of that verb
 abbrev pub line_with : Verb → Left → Result Line ℕ
 line_with Open left = open_line left
 line_with Close left = close_line left
@@ -223,6 +231,7 @@ line_of bytes = do
   verb ← next verb_of (words_of bytes)
   line_with verb.0 verb.1
 
+-- some line, where one was read; the column of a fault stays
 abbrev pub some_line : Result Line ℕ → Result (Option Line) ℕ
 some_line (Ok line) = Ok (Some line)
 some_line (Err column) = Err column

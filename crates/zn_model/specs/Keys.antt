@@ -20,34 +20,44 @@ use Rattle.zn_model.specs.Mounting.{mount_call, unmount_refusal}
 
 -- ---- without keys
 
+-- the key is 0, the generation stays
 abbrev pub unkeyed_handle : Handle → Handle
 unkeyed_handle h = record h { key = 0 }
 
+-- a live handle with the key 0, its file and its mode as they were
 abbrev pub unkeyed_live : Live → Live
 unkeyed_live live = record live { handle = unkeyed_handle live.handle }
 
+-- all live handles with the key 0; how many were opened stays
 abbrev pub unkeyed_handles : Handles → Handles
 unkeyed_handles handles = record handles { live = map unkeyed_live handles.live }
 
+-- a request with the key 0 in its handle
 abbrev pub unkeyed_request : Request → Request
 unkeyed_request request = record request { handle = unkeyed_handle request.handle }
 
+-- so for each request that waits; those that ended name no handle
 abbrev pub unkeyed_queue : Queue → Queue
 unkeyed_queue queue = record queue { queued = map unkeyed_request queue.queued }
 
+-- the key is 0 in each live handle and in each request that waits; nothing else differs
 abbrev pub unkeyed_volume : Volume → Volume
 unkeyed_volume v = record v { handles = unkeyed_handles v.handles; queue = unkeyed_queue v.queue }
 
+-- the volume without keys, on the same device
 abbrev pub unkeyed : Mounted → Mounted
 unkeyed m = record m { volume = unkeyed_volume m.volume }
 
+-- the same reply, with a volume without keys
 abbrev pub unkeyed_answer : {X : Type 0} → Answer X → Answer X
 unkeyed_answer answer = record answer { mounted = unkeyed answer.mounted }
 
+-- an open's handle with the key 0; a refusal stays
 abbrev pub unkeyed_reply : Result Handle Refusal → Result Handle Refusal
 unkeyed_reply (Ok h) = Ok (unkeyed_handle h)
 unkeyed_reply (Err refusal) = Err refusal
 
+-- an open's answer, whose handle and volume are both without keys
 abbrev pub unkeyed_opened : Answer Handle → Answer Handle
 unkeyed_opened answer = record { reply = unkeyed_reply answer.reply; mounted = unkeyed answer.mounted }
 

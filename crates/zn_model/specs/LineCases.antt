@@ -7,15 +7,19 @@ use Rattle.zn_model.specs.LineTexts.{line_text}
 
 -- ---- lines
 
+-- the user 0 opens `seq/0` as handle 0, for reading and writing
 abbrev pub open_both : Line
 open_both = OpenFile 0 (codes "seq/0") (record { 0 = 3 }) root
 
+-- a read of the greatest handle number, offset and length
 abbrev pub read_last : Line
 read_last = ReadFrom 2047 last_offset most_bytes
 
+-- one block of the byte 0x61, at offset 0
 abbrev pub write_one : Line
 write_one = WriteTo 0 0 (record { byte = 0x61; count = 4096 } ∷ [])
 
+-- two runs at offset 4096: the byte 0x0a no times, and the byte 0xff once
 abbrev pub write_two : Line
 write_two = WriteTo 0 4096 (record { byte = 0x0a; count = 0 } ∷ record { byte = 0xff; count = 1 } ∷ [])
 
@@ -46,12 +50,14 @@ pub record LinesWritten : Type 0 where
 
 -- ---- lines that are refused, each at the column of the first word that does not fit
 
+-- an empty line, and first words that are no verb: always column 1
 pub record VerbsRefused : Type 0 where
   pub nothing : line_of [] ≡ Err 1
   pub other : line_of (codes "sizes 0") ≡ Err 1
   pub capital : line_of (codes "Size 0") ≡ Err 1
   pub blank_before : line_of (codes " size 0") ≡ Err 1
 
+-- words behind a verb that are missing, one too many, or not of their form
 pub record WordsRefused : Type 0 where
   pub missing_handle : line_of (codes "size") ≡ Err 5
   pub two_blanks : line_of (codes "size  0") ≡ Err 6
@@ -66,6 +72,7 @@ pub record WordsRefused : Type 0 where
   pub path_not_printable : line_of (codes "stat a\tb") ≡ Err 6
   pub user_too_large : line_of (codes "chown cnv/0 4294967296 0") ≡ Err 13
 
+-- faulty data of a write: the column is where the data begins, whichever part is at fault
 pub record DataRefused : Type 0 where
   pub half_a_byte : line_of (codes "write 0 0 6*1") ≡ Err 11
   pub capital_digit : line_of (codes "write 0 0 6A*1") ≡ Err 11

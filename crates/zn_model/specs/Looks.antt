@@ -30,6 +30,7 @@ mode_of perm shown =
     else if shown.may_write then perm
     else unwritable (perm / 64 % 8) * 64 + unwritable (perm / 8 % 8) * 8 + unwritable (perm % 8)
 
+-- a file: its zones, shown size, room, mode and owner, and how many handles are open on it for writing
 abbrev pub file_stat : Volume → ℕ → Stat
 file_stat v f = record {
   dir = false;
@@ -43,9 +44,11 @@ file_stat v f = record {
   writers = writers_of v.handles f;
 }
 
+-- a directory: its size is its number of entries, and its other numbers are 0
 abbrev pub directory_stat : ℕ → Stat
 directory_stat entries = record { dir = true; zone = 0; zones = 0; size = entries; blocks = 0; mode = 0; uid = 0; gid = 0; writers = 0 }
 
+-- a directory by its names, else a file by its number; a path of neither is refused
 abbrev pub stat_by : Option (List (List ℕ)) → Option ℕ → Mounted → Answer Stat
 stat_by (Some names) file m = answered (directory_stat (length names)) m
 stat_by None (Some f) m = answered (file_stat m.volume f) m
@@ -55,6 +58,7 @@ stat_by None None m = refused NoSuchFile m
 unfoldable pub stat_call : Mounted → List ℕ → Answer Stat
 stat_call m path = with_power m (stat_by (listing_of m.volume.inodes.layout path) (file_named m.volume.inodes.layout path) m)
 
+-- how many names a directory has; a path of no directory is refused
 abbrev pub entries_by : Option (List (List ℕ)) → Mounted → Answer ℕ
 entries_by None m = refused NoSuchFile m
 entries_by (Some names) m = answered (length names) m
@@ -70,6 +74,7 @@ abbrev pub is_shown_active : FileZones → Shown → Bool
 is_shown_active file shown =
     file.sequential && shown.may_write && (shown.held_open || (nat_lt 0 shown.size && nat_lt shown.size (capacity_of file)))
 
+-- the device's two limits; how many sequential files are open for writing, and how many are shown active
 abbrev pub attributes_of : Mounted → Attr
 attributes_of m = record {
   max_wro = m.world.truth.shape.max_open;
@@ -92,9 +97,11 @@ change_refusal = NotAllowed
 abbrev pub all_infos : Truth → List ZoneInfo
 all_infos t = map (info_at t) (range_with_len 0 (length t.zones))
 
+-- one report, from zone 0 to the last
 abbrev pub report_all : Truth → Order
 report_all t = ReportFrom 0 (length t.zones)
 
+-- what the report tells, or the refusal that its failure is told as
 abbrev pub after_report : Reply → List ZoneInfo → Mounted → Answer (List ZoneInfo)
 after_report (Ok unit) infos m = answered infos m
 after_report (Err error) infos m = refused (refusal_of error) m

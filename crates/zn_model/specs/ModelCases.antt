@@ -25,9 +25,11 @@ five_zones = record {
   kinds = Conventional ∷ Conventional ∷ Conventional ∷ Sequential ∷ Conventional ∷ [];
 }
 
+-- a file of so many conventional zones of four blocks, from its first zone on
 abbrev pub cnv_of : ℕ → ℕ → FileZones
 cnv_of first zones = record { first = first; zones = zones; room = 4; sequential = false }
 
+-- a file of one sequential zone of four blocks
 abbrev pub seq_of : ℕ → FileZones
 seq_of first = record { first = first; zones = 1; room = 4; sequential = true }
 
@@ -50,12 +52,15 @@ pub record LayoutCases : Type 0 where
 
 -- ---- access
 
+-- for reading alone
 abbrev pub r : Mode
 r = record { 0 = 1 }
 
+-- for reading and writing
 abbrev pub rw : Mode
 rw = record { 0 = 3 }
 
+-- someone, by user and group
 abbrev pub who : ℕ → ℕ → Who
 who uid gid = record { uid = uid; gid = gid }
 
@@ -75,11 +80,13 @@ pub record AccessCases : Type 0 where
 abbrev pub five_blocks : Area
 five_blocks = record { first = 1; room = 4; from = 2; blocks = 5 }
 
+-- these are the last two blocks of zone 1 and the first three of zone 2
 abbrev pub PiecesCase : Type 0
 PiecesCase = reads five_blocks ≡ ReadAt 1 2 2 ∷ ReadAt 2 0 3 ∷ []
 
 -- ---- texts
 
+-- the text of three bytes, and what option texts mean, or which fault they have first and at which byte
 pub record TextCases : Type 0 where
   pub runs : data_text (97 ∷ 97 ∷ 0 ∷ []) ≡ codes "61*2+00*1"
   pub default : mount_options [] ≡ Ok (record { policy = RemountRo; explicit_open = false })

@@ -25,6 +25,7 @@ use Rattle.zn_model.specs.Looks.{report_all}
 
 -- ---- mount
 
+-- what a mount answers, and the device that it leaves
 pub record MountAnswer : Type 0 where
   pub reply : Result Volume MountError
   pub world : World
@@ -42,6 +43,7 @@ mount_error_of PowerLost = no_power
 mount_error_of Broken = is_broken
 mount_error_of Memory = no_memory
 
+-- what is wrong with the super block, as a mount tells it
 abbrev pub why_of : SuperError → Why
 why_of BadMagic = why_magic
 why_of (CopiesDiffer place) = why_copies place
@@ -60,12 +62,15 @@ super_block_of t = decoded (bytes_at t 0 0 1) (bytes_at t 0 1 1)
 abbrev pub closes : Truth → List Order
 closes t = map (λ z. Manage z Close) (filter (λ z. is_good (zone_at t z).cond && (zone_at t z).explicit) (range_with_len 0 (length t.zones)))
 
+-- no handle is live, and the next generation is 0
 abbrev pub fresh_handles : Handles
 fresh_handles = record { live = []; opened = 0 }
 
+-- no request waits or is to be reaped, and the next ticket is 1
 abbrev pub fresh_queue : Queue
 fresh_queue = record { queued = []; finished = []; last_ticket = 0 }
 
+-- the files, with what a mount shows of each; the file system isn't read-only
 abbrev pub fresh_inodes : Truth → Layout → Inodes
 fresh_inodes t layout = record { layout = layout; shown = map (mounted_shown t) (files_of layout); read_only = false }
 
@@ -80,9 +85,11 @@ fresh_volume t super_block opts = record {
   queue = fresh_queue;
 }
 
+-- a failure of the device, and the device that is left
 abbrev pub mount_failed : DevError → World → MountAnswer
 mount_failed error w = record { reply = Err (mount_error_of error); world = w }
 
+-- why the device doesn't count as formatted, and the device that is left
 abbrev pub not_formatted : Why → World → MountAnswer
 not_formatted why w = record { reply = Err (NotFormatted why); world = w }
 

@@ -19,6 +19,7 @@ use Rattle.zn_model.specs.Table.{Volume, Mounted, Inodes, Live, file_at, shown_a
 use Rattle.zn_model.specs.Recovery.{refusal_of, after_failure}
 use Rattle.zn_model.specs.CallAnswers.{Answer, refused, answered, as_answer, unless, with_power, as_refused}
 
+-- all files have one owner: the user and the group in the super block
 abbrev pub owner_of : Volume → Who
 owner_of v = record { uid = v.super_block.uid; gid = v.super_block.gid }
 
@@ -40,6 +41,7 @@ check_open max_open v f mode who =
 
 -- ---- open
 
+-- the files with one of them held open, or not; what else it shows stays
 abbrev pub held_open : Inodes → ℕ → Bool → Inodes
 held_open inodes f held = with_shown inodes f (record (shown_at inodes f) { held_open = held })
 
@@ -74,6 +76,7 @@ open_now m key f mode =
     then after_open (issue m.world order).reply (record m { world = (issue m.world order).world }) key f mode
     else opened m key f mode
 
+-- a path of no file is refused; else the checks of an open, and then the open itself
 abbrev pub open_by : Option ℕ → Mounted → ℕ → Mode → Who → Answer Handle
 open_by None m key mode who = refused NoSuchFile m
 open_by (Some f) m key mode who = unless (as_refused (check_open m.world.truth.shape.max_open m.volume f mode who)) m (open_now m key f mode)
@@ -89,9 +92,11 @@ abbrev pub after_close : Reply → Mounted → ℕ → Answer (Unit {0})
 after_close (Ok unit) m f = answered tt m
 after_close (Err error) m f = as_answer (after_failure false error m f)
 
+-- the handle is not live any more
 abbrev pub ended : Mounted → Handle → Mounted
 ended m h = record m { volume = record m.volume { handles = without_live m.volume.handles h } }
 
+-- the file is not held open any more
 abbrev pub unheld : Mounted → ℕ → Mounted
 unheld m f = record m { volume = record m.volume { inodes = held_open m.volume.inodes f false } }
 
@@ -105,6 +110,7 @@ close_now m live =
     then after_close (issue m.world order).reply (record (unheld after live.file) { world = (issue m.world order).world }) live.file
     else answered tt after
 
+-- a handle that isn't live is refused, and so is one through which a request waits
 abbrev pub close_by : Option Live → Mounted → Answer (Unit {0})
 close_by None m = refused BadHandle m
 close_by (Some live) m = if is_queued_through m.volume.queue live.handle then refused Busy m else close_now m live

@@ -18,9 +18,11 @@ pub record Item : Type 0 where
   pub place : ℕ
   pub text : List ℕ
 
+-- the byte `,`, which parts items
 abbrev pub is_comma : ℕ → Bool
 is_comma b = b == 44
 
+-- each text as an item, the first at this place; one comma stands between two
 abbrev pub placed_from : ℕ → List (List ℕ) → List Item
 placed_from place [] = []
 placed_from place (text ∷ texts) = record { place = place; text = text } ∷ placed_from (place + length text + 1) texts
@@ -48,6 +50,7 @@ flag_once false item = Ok true
 
 -- one result behind another
 infixl 10 ◌>>>◌
+-- the second goes on from the first's value; an error of the first ends both
 abbrev pub ◌>>>◌ : {A B : Type 0} → Result A OptError → (A → Result B OptError) → Result B OptError
 (Ok x) >>> f = f x
 (Err e) >>> f = Err e
@@ -59,6 +62,7 @@ each_item step state (item ∷ items) = step state item >>> (λ after. each_item
 
 -- ---- mount
 
+-- each policy by its name; any other word is none
 abbrev pub policy_named : List ℕ → Option Policy
 policy_named word =
     if bytes_eq word (codes "remount-ro") then Some RemountRo
@@ -72,12 +76,15 @@ pub record MountGiven : Type 0 where
   pub policy : Option Policy
   pub explicit_open : Bool
 
+-- what was given so far, with this policy
 abbrev pub with_policy : MountGiven → Option Policy → Result MountGiven OptError
 with_policy given policy = Ok (record given { policy = policy })
 
+-- what was given so far, with this flag for explicit opens
 abbrev pub with_explicit_open : MountGiven → Bool → Result MountGiven OptError
 with_explicit_open given explicit = Ok (record given { explicit_open = explicit })
 
+-- the policy behind `errors=` (from byte 7 on), given once; an item that begins otherwise is unknown
 abbrev pub errors_item : Option (List ℕ) → MountGiven → Item → Result MountGiven OptError
 errors_item None given item = Err (UnknownOption item.place)
 errors_item (Some value) given item = value_once given.policy (policy_named value) item.place (item.place + 7) >>> with_policy given
@@ -88,6 +95,7 @@ mount_item given item =
     if bytes_eq item.text (codes "explicit-open") then flag_once given.explicit_open item.place >>> with_explicit_open given
     else errors_item (value_behind (codes "errors=") item.text) given item
 
+-- what is given before the first item: nothing
 abbrev pub no_mount_options : MountGiven
 no_mount_options = record { policy = None; explicit_open = false }
 
@@ -101,12 +109,15 @@ mount_options text = each_item mount_item no_mount_options (items_of text) >>> m
 
 -- ---- format
 
+-- the greatest user and group: the greatest number of 32 bits
 abbrev pub max_u32 : ℕ
 max_u32 = 4294967295
 
+-- an ASCII digit from 0 to 7
 abbrev pub is_octal : ℕ → Bool
 is_octal b = nat_le 48 b && nat_le b 55
 
+-- the number that octal digits stand for, the highest digit first
 abbrev pub octal_worth : List ℕ → ℕ
 octal_worth digits = fold (λ n b. n * 8 + (b - 48)) 0 digits
 
@@ -116,32 +127,40 @@ permissions_in word =
     if nat_lt 0 (length word) && nat_le (length word) 4 && list_all is_octal word && nat_le (octal_worth word) 0o777
     then Some (octal_worth word) else None
 
+-- the options of a format given so far
 pub record FormatGiven : Type 0 where
   pub aggr_cnv : Bool
   pub uid : Option ℕ
   pub gid : Option ℕ
   pub perm : Option ℕ
 
+-- what was given so far, with this flag for aggregated conventional zones
 abbrev pub with_aggr_cnv : FormatGiven → Bool → Result FormatGiven OptError
 with_aggr_cnv given aggr = Ok (record given { aggr_cnv = aggr })
 
+-- what was given so far, with this user
 abbrev pub with_uid : FormatGiven → Option ℕ → Result FormatGiven OptError
 with_uid given uid = Ok (record given { uid = uid })
 
+-- what was given so far, with this group
 abbrev pub with_gid : FormatGiven → Option ℕ → Result FormatGiven OptError
 with_gid given gid = Ok (record given { gid = gid })
 
+-- what was given so far, with these permissions
 abbrev pub with_perm : FormatGiven → Option ℕ → Result FormatGiven OptError
 with_perm given perm = Ok (record given { perm = perm })
 
+-- the permissions behind `perm=` (from byte 5 on), given once; an item that begins otherwise is unknown
 abbrev pub perm_item : Option (List ℕ) → FormatGiven → Item → Result FormatGiven OptError
 perm_item None given item = Err (UnknownOption item.place)
 perm_item (Some value) given item = value_once given.perm (permissions_in value) item.place (item.place + 5) >>> with_perm given
 
+-- the group behind `gid=` (from byte 4 on), given once; any other item is read as one of permissions
 abbrev pub gid_item : Option (List ℕ) → FormatGiven → Item → Result FormatGiven OptError
 gid_item None given item = perm_item (value_behind (codes "perm=") item.text) given item
 gid_item (Some value) given item = value_once given.gid (number_in max_u32 value) item.place (item.place + 4) >>> with_gid given
 
+-- the user behind `uid=` (from byte 4 on), given once; any other item is read as one of a group
 abbrev pub uid_item : Option (List ℕ) → FormatGiven → Item → Result FormatGiven OptError
 uid_item None given item = gid_item (value_behind (codes "gid=") item.text) given item
 uid_item (Some value) given item = value_once given.uid (number_in max_u32 value) item.place (item.place + 4) >>> with_uid given
@@ -152,6 +171,7 @@ format_item given item =
     if bytes_eq item.text (codes "aggr_cnv") then flag_once given.aggr_cnv item.place >>> with_aggr_cnv given
     else uid_item (value_behind (codes "uid=") item.text) given item
 
+-- what is given before the first item: nothing
 abbrev pub no_format_options : FormatGiven
 no_format_options = record { aggr_cnv = false; uid = None; gid = None; perm = None }
 

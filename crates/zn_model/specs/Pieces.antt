@@ -20,6 +20,7 @@ piece a i = record {
 abbrev pub zone_from : Area → ℕ
 zone_from a = a.from / a.room
 
+-- one past the file's last zone that an area with blocks touches
 abbrev pub zone_to : Area → ℕ
 zone_to a = (a.from + a.blocks - 1) / a.room + 1
 
@@ -27,9 +28,11 @@ zone_to a = (a.from + a.blocks - 1) / a.room + 1
 abbrev pub blocks_of : List ℕ → ℕ → ℕ → List ℕ
 blocks_of bytes before n = take (4096 * n) (drop (4096 * before) bytes)
 
+-- the order that writes the area's part in the file's zone i, with that part of the bytes
 abbrev pub write_in : Area → List ℕ → ℕ → Order
 write_in a bytes i = WriteAt (piece a i).zone (piece a i).at (blocks_of bytes (piece a i).before (piece a i).blocks)
 
+-- the order that reads the area's part in the file's zone i
 abbrev pub read_in : Area → ℕ → Order
 read_in a i = ReadAt (piece a i).zone (piece a i).at (piece a i).blocks
 
@@ -37,6 +40,7 @@ read_in a i = ReadAt (piece a i).zone (piece a i).at (piece a i).blocks
 abbrev pub writes : Area → List ℕ → List Order
 writes a bytes = each_zone (write_in a bytes) (zone_from a) (zone_to a)
 
+-- a read of the area: one order for each zone touched, in rising order
 abbrev pub reads : Area → List Order
 reads a = each_zone (read_in a) (zone_from a) (zone_to a)
 
@@ -56,6 +60,7 @@ pub record Touched (a : Area) (i : ℕ) : Type 0 where
 
 -- ---- what a read gives
 
+-- the bytes that are told of the area's part in the file's zone i
 abbrev pub bytes_in : Truth → Area → ℕ → List ℕ
 bytes_in t a i = bytes_at t (piece a i).zone (piece a i).at (piece a i).blocks
 

@@ -46,6 +46,7 @@ abbrev pub after_read : Reply → Mounted → ℕ → List ℕ → Answer (List 
 after_read (Ok unit) m f bytes = answered bytes m
 after_read (Err error) m f bytes = as_answer (after_failure true error m f)
 
+-- a read that passed its checks: its orders go to the device, and their reply decides what is answered
 unfoldable pub read_now : Mounted → ℕ → ℕ → ℕ → Answer (List ℕ)
 read_now m f offset len =
     let file = file_at m.volume.inodes f in
@@ -53,6 +54,7 @@ read_now m f offset len =
     let orders = issue_all m.world (read_orders file offset end) in
     after_read orders.reply (record m { world = orders.world }) f (read_bytes m.world.truth file offset end)
 
+-- a handle that isn't live is refused; else the checks refuse, or the file is read
 abbrev pub read_by : Option Live → Mounted → ℕ → ℕ → Answer (List ℕ)
 read_by None m offset len = refused BadHandle m
 read_by (Some live) m offset len = unless (as_refused (check_read m.volume live offset)) m (read_now m live.file offset len)
@@ -61,6 +63,7 @@ read_by (Some live) m offset len = unless (as_refused (check_read m.volume live 
 unfoldable pub read_call : Mounted → Handle → ℕ → ℕ → Answer (List ℕ)
 read_call m h offset len = with_power m (read_by (live_at m.volume.handles h) m offset len)
 
+-- the handle must be live, and needs no rights
 abbrev pub size_by : Option Live → Mounted → Answer ℕ
 size_by None m = refused BadHandle m
 size_by (Some live) m = answered (shown_at m.volume.inodes live.file).size m

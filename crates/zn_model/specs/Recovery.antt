@@ -46,6 +46,7 @@ is_passed_on TooManyOpen = false
 
 -- ---- what a report finds
 
+-- one report of all the file's zones, and of no others
 abbrev pub report_of : FileZones → Order
 report_of file = ReportFrom file.first file.zones
 
@@ -89,15 +90,18 @@ abbrev pub inodes_after : Option Found → Policy → Inodes → ℕ → Inodes
 inodes_after (Some found) policy inodes f = recovered_inodes policy found inodes f
 inodes_after None policy inodes f = inodes
 
+-- where something is applied, every request that waits for the file fails; else all stay
 abbrev pub queue_after : Option Found → Queue → ℕ → Queue
 queue_after (Some found) queue f = failed queue f
 queue_after None queue f = queue
 
+-- what is applied changes the files and the requests; the rest of the volume stays
 abbrev pub volume_after : Option Found → Volume → ℕ → Volume
 volume_after found v f = record v { inodes = inodes_after found v.policy v.inodes f; queue = queue_after found v.queue f }
 
 -- ---- after a failure
 
+-- what a report of the zones of the file with this number finds
 abbrev pub finding_of : Mounted → ℕ → Finding
 finding_of m f = finding m.world (file_at m.volume.inodes f)
 
@@ -118,6 +122,8 @@ pub record Failed : Type 0 where
   pub refusal : Refusal
   pub mounted : Mounted
 
+-- a failure that is passed on leaves all as it is; after any other comes recovery, and a failure of its
+-- report that is passed on is told instead
 abbrev pub failed_by : Bool → Bool → Refusal → Mounted → ℕ → Failed
 failed_by true after_read refusal m f = record { refusal = refusal; mounted = m }
 failed_by false after_read refusal m f = record { refusal = told_after (finding_of m f) refusal; mounted = recovered after_read m f }

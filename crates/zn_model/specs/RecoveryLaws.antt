@@ -26,6 +26,7 @@ pub record OthersStay (before after : Inodes) (f : ℕ) : Type 0 where
   pub count : length after.shown ≡ length before.shown
   pub others : (g : ℕ) → g ≢ f → shown_at after g ≡ shown_at before g
 
+-- whatever was found, and by any policy, a recovery changes no other file, and not which files there are
 abbrev pub RecoveryLeavesOthers : Type 0
 RecoveryLeavesOthers = (policy : Policy) (found : Found) (inodes : Inodes) (f : ℕ) → OthersStay inodes (recovered_inodes policy found inodes f) f
 
@@ -47,6 +48,7 @@ RecoveryOfMounted = (m : Mounted) (f : ℕ) → m.world ≡ calm m.world.truth
 abbrev pub two_blocks : FileZones
 two_blocks = record { first = 1; zones = 1; room = 2; sequential = true }
 
+-- it shows 8,192 bytes, may be read and written, and is held open
 abbrev pub shows_two : Shown
 shows_two = showing 8192 true true true
 

@@ -33,6 +33,7 @@ use Rattle.zn_model.specs.ZoneFiles.{cnv_path, seq_path}
 
 -- ---- names
 
+-- each refusal of a call in lower case words, joined by hyphens
 abbrev pub refusal_name : Refusal → List ℕ
 refusal_name NoSuchFile = codes "no-such-file"
 refusal_name NotAllowed = codes "not-allowed"
@@ -60,11 +61,13 @@ refusal_name PowerLost = codes "power-lost"
 refusal_name Broken = codes "broken"
 refusal_name Memory = codes "memory"
 
+-- a zone is good, read-only or offline
 abbrev pub cond_name : Cond → List ℕ
 cond_name Good = codes "good"
 cond_name read_only = codes "read-only"
 cond_name offline = codes "offline"
 
+-- why a device isn't formatted, with the byte place or the version that is at fault
 abbrev pub why_name : Why → List ℕ
 why_name BadMagic = codes "bad-magic"
 why_name (CopiesDiffer place) = codes "copies-differ " ⧺ decimal place
@@ -73,6 +76,7 @@ why_name (BadField place) = codes "bad-field " ⧺ decimal place
 why_name Zone0NotFull = codes "zone0-not-full"
 why_name Zone0Offline = codes "zone0-offline"
 
+-- why a mount failed; where the device isn't formatted, the reason is told
 abbrev pub mount_error_name : MountError → List ℕ
 mount_error_name (NotFormatted why) = codes "not-formatted " ⧺ why_name why
 mount_error_name mount_io_error = codes "io-error"
@@ -80,6 +84,7 @@ mount_error_name mount_power_lost = codes "power-lost"
 mount_error_name mount_broken = codes "broken"
 mount_error_name mount_memory = codes "memory"
 
+-- why a format failed; where zone 0 is bad, its condition is told
 abbrev pub format_error_name : FormatError → List ℕ
 format_error_name AlreadyFormatted = codes "already-formatted"
 format_error_name (BadZone0 cond) = codes "bad-zone0 " ⧺ cond_name cond
@@ -88,11 +93,13 @@ format_error_name format_power_lost = codes "power-lost"
 format_error_name format_broken = codes "broken"
 format_error_name format_memory = codes "memory"
 
+-- what is wrong with an option, and the byte place of the item or of its value
 abbrev pub option_error_name : OptError → List ℕ
 option_error_name (UnknownOption place) = codes "unknown-option " ⧺ decimal place
 option_error_name (Repeated place) = codes "repeated-option " ⧺ decimal place
 option_error_name (BadValue place) = codes "bad-value " ⧺ decimal place
 
+-- why a fault, a turn of a zone or a loss of power was refused
 abbrev pub inject_error_name : InjectError → List ℕ
 inject_error_name BadFault = codes "bad-fault"
 inject_error_name TooManyFaults = codes "too-many-faults"
@@ -100,6 +107,7 @@ inject_error_name inject_power_lost = codes "power-lost"
 inject_error_name inject_broken = codes "broken"
 inject_error_name inject_memory = codes "memory"
 
+-- a request ended well, or with one of three failures
 abbrev pub outcome_name : Outcome → List ℕ
 outcome_name had_done = codes "ok"
 outcome_name had_io_error = codes "io-error"
@@ -108,12 +116,15 @@ outcome_name had_too_many_open = codes "too-many-open"
 
 -- ---- lines
 
+-- `error` and a name, which may have several words, on a line
 abbrev pub error_text : List ℕ → List ℕ
 error_text name = codes "error " ⧺ name ⧺ codes "\n"
 
+-- the line of a call that has nothing to tell
 abbrev pub ok_text : List ℕ
 ok_text = codes "ok\n"
 
+-- `ok` and a decimal number, on a line
 abbrev pub number_text : ℕ → List ℕ
 number_text n = codes "ok " ⧺ decimal n ⧺ codes "\n"
 
@@ -122,6 +133,7 @@ abbrev pub reply_text : {X E : Type 0} → (X → List ℕ) → (E → List ℕ)
 reply_text told name (Ok value) = told value
 reply_text told name (Err refusal) = error_text (name refusal)
 
+-- success without a value is told as `ok` alone
 abbrev pub plain : Unit {0} → List ℕ
 plain unit = ok_text
 
@@ -130,6 +142,7 @@ abbrev pub read_text : List ℕ → List ℕ
 read_text [] = codes "ok 0\n"
 read_text (b ∷ bytes) = codes "ok " ⧺ decimal (length (b ∷ bytes)) ⧺ codes " " ⧺ data_text (b ∷ bytes) ⧺ codes "\n"
 
+-- a request's ticket, and how it ended
 abbrev pub done_text : Done → List ℕ
 done_text done = codes "ok " ⧺ decimal done.ticket ⧺ codes " " ⧺ outcome_name done.outcome ⧺ codes "\n"
 
@@ -137,18 +150,22 @@ done_text done = codes "ok " ⧺ decimal done.ticket ⧺ codes " " ⧺ outcome_n
 abbrev pub octal_text : ℕ → List ℕ
 octal_text mode = (48 + mode / 64 % 8) ∷ (48 + mode / 8 % 8) ∷ (48 + mode % 8) ∷ []
 
+-- a file on one line: its path and zones, size and capacity, permissions and owner, and its writers
 abbrev pub file_text : List ℕ → Stat → List ℕ
 file_text path stat =
     codes "ok file " ⧺ path ⧺ codes " zone " ⧺ decimal stat.zone ⧺ codes " zones " ⧺ decimal stat.zones ⧺ codes " size " ⧺ decimal stat.size
     ⧺ codes " blocks " ⧺ decimal stat.blocks ⧺ codes " mode " ⧺ octal_text stat.mode ⧺ codes " uid " ⧺ decimal stat.uid
     ⧺ codes " gid " ⧺ decimal stat.gid ⧺ codes " writers " ⧺ decimal stat.writers ⧺ codes "\n"
 
+-- a directory on one line: its path, and how many entries it has
 abbrev pub directory_text : List ℕ → Stat → List ℕ
 directory_text path stat = codes "ok dir " ⧺ path ⧺ codes " size " ⧺ decimal stat.size ⧺ codes "\n"
 
+-- directories and files have lines of different forms
 abbrev pub stat_text : List ℕ → Stat → List ℕ
 stat_text path stat = if stat.dir then directory_text path stat else file_text path stat
 
+-- a name alone on its line
 abbrev pub name_line : List ℕ → List ℕ
 name_line name = name ⧺ codes "\n"
 
@@ -156,6 +173,7 @@ name_line name = name ⧺ codes "\n"
 abbrev pub list_text : List (List ℕ) → List ℕ
 list_text names = number_text (length names) ⧺ flat_map name_line names
 
+-- each limit before its count, all on one line: files open for writing, then active ones
 abbrev pub attr_text : Attr → List ℕ
 attr_text attr =
     codes "ok max_wro_seq_files=" ⧺ decimal attr.max_wro ⧺ codes " nr_wro_seq_files=" ⧺ decimal attr.nr_wro
@@ -163,10 +181,12 @@ attr_text attr =
 
 -- ---- zones
 
+-- a kind of zone is called as the directory of its files
 abbrev pub kind_name : Kind → List ℕ
 kind_name Conventional = codes "cnv"
 kind_name Sequential = codes "seq"
 
+-- `super` for zone 0, else the path of the zone's file, or a hyphen where there is none
 abbrev pub place_name : Place → List ℕ
 place_name Super = codes "super"
 place_name (Cnv i) = cnv_path i

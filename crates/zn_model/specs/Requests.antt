@@ -25,6 +25,7 @@ check_room queue len =
     else if nat_lt (pool_blocks - queued_blocks queue) (len / 4096) then Some PoolEmpty
     else None
 
+-- a submit of no bytes counts as unaligned
 abbrev pub check_some : ℕ → Option Refusal
 check_some len = if len == 0 then Some not_aligned else None
 
@@ -35,16 +36,19 @@ check_submit v live offset len =
     else or_else (check_rights v.inodes.read_only (shown_at v.inodes live.file))
     (or_else (check_some len) (or_else (check_area (file_at v.inodes live.file) (issued_end v live.file) offset len) (check_room v.queue len)))
 
+-- the write waits behind all others, with the next ticket
 abbrev pub submitted : Queue → Live → ℕ → List ℕ → Queue
 submitted queue live offset bytes = record queue {
   queued = queue.queued ++ (record { ticket = queue.last_ticket + 1; file = live.file; handle = live.handle; offset = offset; bytes = bytes }) ∷ [];
   last_ticket = queue.last_ticket + 1;
 }
 
+-- the write is queued, without a command to the device, and its ticket is answered
 abbrev pub submit_now : Mounted → Live → ℕ → List ℕ → Answer ℕ
 submit_now m live offset bytes = answered (m.volume.queue.last_ticket + 1)
     (record m { volume = record m.volume { queue = submitted m.volume.queue live offset bytes } })
 
+-- a handle that isn't live is refused; else the checks refuse, or the write is queued
 abbrev pub submit_by : Option Live → Mounted → ℕ → List ℕ → Answer ℕ
 submit_by None m offset bytes = refused BadHandle m
 submit_by (Some live) m offset bytes = unless (as_refused (check_submit m.volume live offset (length bytes))) m (submit_now m live offset bytes)
@@ -89,11 +93,13 @@ after_complete (Err error) m request waiting =
     if is_passed_on error then refused (refusal_of error) m
     else complete_recovered (finding_of m request.file) m request waiting error
 
+-- the request's orders go to the device, and their reply decides the rest
 unfoldable pub complete_now : Mounted → Request → List Request → Answer ℕ
 complete_now m request waiting =
     let orders = issue_all m.world (write_orders m.volume request.file request.offset request.bytes) in
     after_complete orders.reply (record m { world = orders.world }) request waiting
 
+-- the first that waits is carried out; where none waits, the call is refused
 abbrev pub complete_by : List Request → Mounted → Answer ℕ
 complete_by [] m = refused NothingQueued m
 complete_by (request ∷ waiting) m = complete_now m request waiting
@@ -104,6 +110,7 @@ complete_call m = with_power m (complete_by m.volume.queue.queued m)
 
 -- ---- reap
 
+-- the first outcome is taken from the queue; where there is none, the call is refused
 abbrev pub reap_by : List Done → Mounted → Answer Done
 reap_by [] m = refused NothingDone m
 reap_by (first ∷ rest) m = answered first (record m { volume = record m.volume { queue = record m.volume.queue { finished = rest } } })

@@ -30,9 +30,11 @@ pub record Scratch : Type 0 where
 abbrev pub is_scratch : Scratch → Bool
 is_scratch s = nat_le 1 s.zones && nat_le s.conv s.zones && nat_le 2 s.blocks && nat_le (s.zones * s.blocks) 65536
 
+-- the device that is asked for, where it is within these limits
 abbrev pub accepted : Scratch → Option Scratch
 accepted s = if is_scratch s then Some s else None
 
+-- all three numbers must be readable, and be within the limits together
 abbrev pub scratch_by : Option ℕ → Option ℕ → Option ℕ → Option Scratch
 scratch_by (Some zones) (Some conv) (Some blocks) = accepted (record { zones = zones; conv = conv; blocks = blocks })
 scratch_by (Some zones) (Some conv) None = None
@@ -51,6 +53,7 @@ command_of (name ∷ zones ∷ conv ∷ blocks ∷ more ∷ words) = None
 
 -- ---- the device
 
+-- the conventional zones come first, and all others are sequential
 abbrev pub kinds_of : Scratch → List Kind
 kinds_of s = replicate s.conv Conventional ++ replicate (s.zones - s.conv) Sequential
 
@@ -65,6 +68,7 @@ shape_of s = record { zone_blocks = s.blocks; zone_capacity = s.blocks; max_open
 abbrev pub bare_super_block : SuperBlock
 bare_super_block = record { label = []; uuid = []; aggr_cnv = false; uid = 0; gid = 0; perm = 0o640 }
 
+-- as a mount without options: the policy is remount-ro, and opens aren't explicit
 abbrev pub bare_options : MountOpts
 bare_options = record { policy = RemountRo; explicit_open = false }
 

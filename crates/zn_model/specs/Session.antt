@@ -64,9 +64,11 @@ pub record Stepped : Type 0 where
 abbrev pub fresh_table : Truth → List ℕ → Table
 fresh_table t entropy = record { world = calm t; volume = None; numbers = no_numbers; entropy = entropy }
 
+-- a reply of this text, with this table after it
 abbrev pub says : List ℕ → Table → Stepped
 says text table = record { text = text; table = table }
 
+-- a reply of `error` and a name, with this table after it
 abbrev pub says_error : List ℕ → Table → Stepped
 says_error name table = says (error_text name) table
 
@@ -74,12 +76,15 @@ says_error name table = says (error_text name) table
 abbrev pub with_mounted : Table → Mounted → Table
 with_mounted table m = record table { world = m.world; volume = Some m.volume }
 
+-- the handle that a number of the script stands for, if it has one
 abbrev pub handle_of : Table → ℕ → Option Handle
 handle_of table n = slice_index_or table.numbers n None
 
+-- from now on the number stands for this handle
 abbrev pub with_number : Table → ℕ → Handle → Table
 with_number table n h = record table { numbers = slice_set table.numbers n (Some h) }
 
+-- the number is free again
 abbrev pub without_number : Table → ℕ → Table
 without_number table n = record table { numbers = slice_set table.numbers n None }
 
@@ -90,6 +95,7 @@ abbrev pub on_volume : Option Volume → Table → (Mounted → Stepped) → Ste
 on_volume None table step = says_error (codes "not-mounted") table
 on_volume (Some v) table step = step (record { world = table.world; volume = v })
 
+-- a step that needs a mounted volume, which is the session's
 abbrev pub mounted_then : Table → (Mounted → Stepped) → Stepped
 mounted_then table step = on_volume table.volume table step
 
@@ -98,6 +104,7 @@ abbrev pub on_handle : Option Handle → Table → (Handle → Stepped) → Step
 on_handle None table step = says_error (codes "bad-handle") table
 on_handle (Some h) table step = step h
 
+-- a step that needs a mounted volume first, and then a handle for its number
 abbrev pub handle_then : Table → ℕ → (Mounted → Handle → Stepped) → Stepped
 handle_then table n step = mounted_then table (λ m. on_handle (handle_of table n) table (step m))
 
@@ -105,6 +112,7 @@ handle_then table n step = mounted_then table (λ m. on_handle (handle_of table 
 abbrev pub tells : {X : Type 0} → (X → List ℕ) → Table → Answer X → Stepped
 tells told table answer = says (reply_text told refusal_name answer.reply) (with_mounted table answer.mounted)
 
+-- a handle that was opened gets the number; a refusal is told, and no number changes
 abbrev pub opens : Answer Handle → Result Handle Refusal → Table → ℕ → Stepped
 opens answer (Ok h) table n = says ok_text (with_number (with_mounted table answer.mounted) n h)
 opens answer (Err refusal) table n = says_error (refusal_name refusal) (with_mounted table answer.mounted)
@@ -116,6 +124,7 @@ open_line table n path mode who m =
     if is_some (handle_of table n) then says_error (codes "handle-in-use") table
     else opens (open_call m 0 path mode who) (open_call m 0 path mode who).reply table n
 
+-- of all refusals, only this one lets a number keep its handle after a close
 abbrev pub is_busy : Refusal → Bool
 is_busy Busy = true
 is_busy NoSuchFile = false
@@ -147,24 +156,29 @@ abbrev pub freed_by : Result (Unit {0}) Refusal → Table → ℕ → Table
 freed_by (Ok unit) table n = without_number table n
 freed_by (Err refusal) table n = if is_busy refusal then table else without_number table n
 
+-- the handle is closed, and the reply of that decides whether its number becomes free
 abbrev pub close_line : Table → ℕ → Mounted → Handle → Stepped
 close_line table n m h =
     let answer = close_call m h in
     says (reply_text plain refusal_name answer.reply) (freed_by answer.reply (with_mounted table answer.mounted) n)
 
+-- a refusal is told and changes nothing; else the volume is dropped and every number becomes free
 abbrev pub unmounts : Option Refusal → Table → Stepped
 unmounts (Some refusal) table = says_error (refusal_name refusal) table
 unmounts None table = says ok_text (record table { volume = None; numbers = no_numbers })
 
+-- the names that a listing has, and none where there is no directory
 abbrev pub names_in : Option (List (List ℕ)) → List (List ℕ)
 names_in None = []
 names_in (Some names) = names
 
+-- the names in a directory; what refuses to count them is told instead
 abbrev pub list_line : Table → List ℕ → Mounted → Stepped
 list_line table path m = tells (λ n. list_text (names_in (listing_of m.volume.inodes.layout path))) table (entries_call m path)
 
 -- ---- mkfs
 
+-- no label means the empty one; a given one has at most 64 bytes, all such as a label may have
 abbrev pub label_in : Option (List ℕ) → Option (List ℕ)
 label_in None = Some []
 label_in (Some text) = if nat_le (length text) 64 && list_all is_label_byte text then Some text else None
@@ -173,17 +187,21 @@ label_in (Some text) = if nat_le (length text) 64 && list_all is_label_byte text
 abbrev pub uuid_from : List ℕ → List ℕ
 uuid_from entropy = with_version (with_variant entropy RFC4122) Random
 
+-- a given identifier must be readable; where none is given, the sixteen bytes make one
 abbrev pub uuid_in : Option (List ℕ) → List ℕ → Option (List ℕ)
 uuid_in None entropy = Some (uuid_from entropy)
 uuid_in (Some text) entropy = parsed text
 
+-- the features that a text asks for; no text is as an empty one
 abbrev pub features_in : Option (List ℕ) → Result FormatOpts OptError
 features_in None = format_options []
 features_in (Some text) = format_options text
 
+-- the label and the identifier, with aggregation, owner and permissions as the features say
 abbrev pub super_block_by : List ℕ → List ℕ → FormatOpts → SuperBlock
 super_block_by label uuid opts = record { label = label; uuid = uuid; aggr_cnv = opts.aggr_cnv; uid = opts.uid; gid = opts.gid; perm = opts.perm }
 
+-- the reply of a format, and the device as that left it
 abbrev pub formats : FormatAnswer → Table → Stepped
 formats answer table = says (reply_text plain format_error_name answer.reply) (record table { world = answer.world })
 
@@ -199,16 +217,19 @@ abbrev pub unless_mounted : Option Volume → Table → Stepped → Stepped
 unless_mounted (Some v) table step = says_error (codes "already-mounted") table
 unless_mounted None table step = step
 
+-- a format from the words of a line, refused where something is mounted
 abbrev pub mkfs_line : Table → FormatWords → Stepped
 mkfs_line table words =
     unless_mounted table.volume table (format_with (label_in words.label) (uuid_in words.uuid table.entropy) (features_in words.features) words.force table)
 
 -- ---- mount
 
+-- the mount options that a text asks for; no text is as an empty one
 abbrev pub options_in : Option (List ℕ) → Result MountOpts OptError
 options_in None = mount_options []
 options_in (Some text) = mount_options text
 
+-- a mount that succeeds is told as `ok`, and leaves its volume; one that fails leaves none
 abbrev pub mounts : MountAnswer → Table → Stepped
 mounts answer table = says (reply_text (λ volume. ok_text) mount_error_name answer.reply)
     (record table { world = answer.world; volume = result_ok answer.reply })
@@ -218,15 +239,18 @@ abbrev pub mount_with : Result MountOpts OptError → Table → Stepped
 mount_with (Err error) table = says_error (option_error_name error) table
 mount_with (Ok opts) table = mounts (mount_call table.world opts) table
 
+-- a mount with the options of a line, refused where something is mounted
 abbrev pub mount_line : Table → Option (List ℕ) → Stepped
 mount_line table text = unless_mounted table.volume table (mount_with (options_in text) table)
 
 -- ---- lines on the device
 
+-- where the volume shows a zone; nowhere while none is mounted
 abbrev pub place_by : Option Volume → ℕ → Place
 place_by None z = Unplaced
 place_by (Some v) z = place_in v z
 
+-- a report that succeeds is told zone by zone, and one that fails as a call would tell it
 abbrev pub zones_told : Reply → World → Option Volume → List ℕ
 zones_told (Ok unit) w volume = zones_text (geometry_of w) (place_by volume) (all_infos w.truth)
 zones_told (Err error) w volume = error_text (refusal_name (refusal_of error))
@@ -237,11 +261,13 @@ zones_line table =
     let reported = issue table.world (report_all table.world.truth) in
     says (zones_told reported.reply table.world table.volume) (record table { world = reported.world })
 
+-- the reply of what was done to the device, and the device as that left it
 abbrev pub injects : Table → Injected → Stepped
 injects table injected = says (reply_text plain inject_error_name injected.reply) (record table { world = injected.world })
 
 -- ---- all lines
 
+-- a line's reply and the table after it, but that lost power has not yet dropped the volume
 unfoldable pub line_now : Table → Line → Stepped
 line_now table (Mkfs words) = mkfs_line table words
 line_now table (Mount text) = mount_line table text

@@ -20,6 +20,7 @@ showing size may_read may_write held_open = record { size = size; may_read = may
 abbrev pub infos_of : Truth → FileZones → List ZoneInfo
 infos_of t file = map (info_at t) (range_with_len file.first file.zones)
 
+-- the worse of two conditions: offline is the worst, and good the best
 abbrev pub worse : Cond → Cond → Cond
 worse Good b = b
 worse ReadOnly Good = ReadOnly
@@ -63,6 +64,7 @@ makes_read_only Repair = false
 
 -- ---- at a mount
 
+-- by the worst condition: what is held, in bytes, with all rights, or size 0 without rights; none is held open
 abbrev pub mounted_by : Cond → ℕ → Shown
 mounted_by Good held = showing held true true false
 mounted_by ReadOnly held = showing 0 false false false

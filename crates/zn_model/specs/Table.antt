@@ -47,6 +47,7 @@ pub record Queue : Type 0 where
   pub finished : List Done
   pub last_ticket : ℕ
 
+-- the super block, the options of the mount, and what calls change: files, handles and requests
 pub record Volume : Type 0 where
   pub super_block : SuperBlock
   pub policy : Policy
@@ -62,12 +63,15 @@ pub record Mounted : Type 0 where
 
 -- ---- files
 
+-- what stands for a file with a number that none has: no zones and no room
 abbrev pub no_file : FileZones
 no_file = record { first = 0; zones = 0; room = 0; sequential = false }
 
+-- the file with this number
 abbrev pub file_at : Inodes → ℕ → FileZones
 file_at inodes f = slice_index_or (files_of inodes.layout) f no_file
 
+-- what the file with this number shows; where there is none, size 0 without rights
 abbrev pub shown_at : Inodes → ℕ → Shown
 shown_at inodes f = slice_index_or inodes.shown f (showing 0 false false false)
 
@@ -81,6 +85,7 @@ with_shown inodes f shown = record inodes { shown = slice_set inodes.shown f sho
 abbrev pub max_handles : ℕ
 max_handles = 1024
 
+-- both the keys and the generations agree
 abbrev pub is_same_handle : Handle → Handle → Bool
 is_same_handle a b = (a.key == b.key) && (a.generation == b.generation)
 
@@ -88,9 +93,11 @@ is_same_handle a b = (a.key == b.key) && (a.generation == b.generation)
 abbrev pub live_at : Handles → Handle → Option Live
 live_at handles h = find (λ live. is_same_handle live.handle h) handles.live
 
+-- one more live handle, behind the others, which also counts as opened
 abbrev pub with_live : Handles → Live → Handles
 with_live handles live = record { live = handles.live ++ live ∷ []; opened = handles.opened + 1 }
 
+-- the handle is live no longer; how many were opened stays
 abbrev pub without_live : Handles → Handle → Handles
 without_live handles h = record handles { live = filter (λ live. not (is_same_handle live.handle h)) handles.live }
 
@@ -112,6 +119,7 @@ wro v = count_by (λ f. (file_at v.inodes f).sequential && nat_lt 0 (writers_of 
 abbrev pub max_requests : ℕ
 max_requests = 64
 
+-- the most blocks that all requests that wait may hold together
 abbrev pub pool_blocks : ℕ
 pool_blocks = 1024
 
@@ -127,9 +135,11 @@ queued_blocks queue = sum_by (λ request. length request.bytes / 4096) queue.que
 abbrev pub is_queued : Queue → ℕ → Bool
 is_queued queue f = list_any (λ request. request.file == f) queue.queued
 
+-- some request that waits was submitted through this very handle
 abbrev pub is_queued_through : Queue → Handle → Bool
 is_queued_through queue h = list_any (λ request. is_same_handle request.handle h) queue.queued
 
+-- the request ends with an input or output error
 abbrev pub failed_request : Request → Done
 failed_request request = record { ticket = request.ticket; outcome = IoError }
 

@@ -23,6 +23,7 @@ script_limit = 16777216
 
 -- ---- transcripts
 
+-- what the lines of a script write, what they make of the session, and how the run ends
 pub record Transcript : Type 0 where
   -- the replies
   pub text : List ℕ
@@ -30,6 +31,7 @@ pub record Transcript : Type 0 where
   pub table : Table
   pub ending : Ending
 
+-- the run ends so, with no more replies and the table as it is
 abbrev pub stop : Table → Ending → Transcript
 stop table ending = record { text = []; table = table; ending = ending }
 
@@ -61,6 +63,7 @@ transcript_from tail table n (line ∷ piece ∷ pieces) =
     if nat_lt line_limit (length line) then stop table (LineTooLong n)
     else line_then (reading_of line) table n (λ after. transcript_from tail after (n + 1) (piece ∷ pieces))
 
+-- the byte 10
 abbrev pub is_newline : ℕ → Bool
 is_newline b = b == 10
 
@@ -78,6 +81,7 @@ transcript tail table taken = transcript_at tail table 1 (take script_limit take
 
 -- ---- lines among the bytes
 
+-- a byte that may stand within a line
 abbrev pub NotNewline : ℕ → Type 0
 NotNewline b = is_newline b ≡ false
 
@@ -108,6 +112,7 @@ whole_text t = t.text ++ last_line t.ending
 
 -- ---- endings that no further bytes change
 
+-- a bad line and a line that is too long are such endings, and no others are
 abbrev pub IsDecided : Ending → Type 0
 IsDecided Finished = ⊥
 IsDecided (BadLine n column) = Unit {0}

@@ -18,6 +18,7 @@ use Rattle.zn_model.specs.CallAnswers.{Answer, refused, answered, as_answer, unl
 
 -- ---- truncate
 
+-- a truncate is allowed to 0 and to the capacity, in bytes, and to no other size
 abbrev pub check_size : FileZones → ℕ → Option Refusal
 check_size file size = if (size == 0) || (size == capacity_of file) then None else Some NotAllowed
 
@@ -45,6 +46,7 @@ truncate_orders file shown size =
 abbrev pub truncated : FileZones → Shown → ℕ → Shown
 truncated file shown size = record shown { size = size; held_open = shown.held_open && not (size == capacity_of file) }
 
+-- the file shows what a truncate leaves; the rest of the volume stays
 abbrev pub truncated_volume : Volume → ℕ → ℕ → Volume
 truncated_volume v f size = record v { inodes = with_shown v.inodes f (truncated (file_at v.inodes f) (shown_at v.inodes f) size) }
 
@@ -53,11 +55,13 @@ abbrev pub after_truncate : Reply → Mounted → ℕ → ℕ → Answer (Unit {
 after_truncate (Ok unit) m f size = answered tt (record m { volume = truncated_volume m.volume f size })
 after_truncate (Err error) m f size = as_answer (after_failure false error m f)
 
+-- a truncate that passed its checks: its orders go to the device, and their reply decides the rest
 unfoldable pub truncate_now : Mounted → ℕ → ℕ → Answer (Unit {0})
 truncate_now m f size =
     let orders = issue_all m.world (truncate_orders (file_at m.volume.inodes f) (shown_at m.volume.inodes f) size) in
     after_truncate orders.reply (record m { world = orders.world }) f size
 
+-- a handle that isn't live is refused; else the checks give the reply, or the file is truncated
 abbrev pub truncate_by : Option Live → Mounted → ℕ → Answer (Unit {0})
 truncate_by None m size = refused BadHandle m
 truncate_by (Some live) m size = unless (check_truncate m.volume live size) m (truncate_now m live.file size)
@@ -74,6 +78,7 @@ check_sync v live =
     if not (shown_at v.inodes live.file).may_read then Some FileOffline
     else check_busy (is_queued v.queue live.file)
 
+-- what follows the flush of a sync, by its reply: the volume stays, or what follows a failed command
 abbrev pub after_sync : Reply → Mounted → ℕ → Answer (Unit {0})
 after_sync (Ok unit) m f = answered tt m
 after_sync (Err error) m f = as_answer (after_failure false error m f)
@@ -82,6 +87,7 @@ after_sync (Err error) m f = as_answer (after_failure false error m f)
 unfoldable pub sync_now : Mounted → ℕ → Answer (Unit {0})
 sync_now m f = after_sync (issue m.world FlushAll).reply (record m { world = (issue m.world FlushAll).world }) f
 
+-- a handle that isn't live is refused; else the checks refuse, or the device is flushed
 abbrev pub sync_by : Option Live → Mounted → Answer (Unit {0})
 sync_by None m = refused BadHandle m
 sync_by (Some live) m = unless (as_refused (check_sync m.volume live)) m (sync_now m live.file)

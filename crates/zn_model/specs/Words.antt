@@ -2,6 +2,7 @@
 use Rattle.std.specs.Prelude.{ℕ, ◌+◌, ◌-◌, ◌==◌, Bool, List, [], ◌∷◌, length, Option, Some, None, Result, Ok, Err}
 use Rattle.std.specs.List.{slice_split}
 
+-- the byte 32
 abbrev pub is_blank : ℕ → Bool
 is_blank b = b == 32
 
@@ -12,6 +13,7 @@ pub record Left : Type 0 where
 
 -- one reading after another: the first that does not fit decides the column
 infixl 10 ◌>>=◌
+-- a value is handed to the next reading, and a column is the result at once
 abbrev pub ◌>>=◌ : {A B : Type 0} → Result A ℕ → (A → Result B ℕ) → Result B ℕ
 (Ok x) >>= f = f x
 (Err e) >>= f = Err e
@@ -26,6 +28,7 @@ abbrev pub next_of : {A : Type 0} → (List ℕ → Option A) → ℕ → List (
 next_of read column [] = Err (column - 1)
 next_of read column (word ∷ words) = or_column (read word) column (record { column = column + length word + 1; words = words })
 
+-- the first word that is left, read so, and what is left after it
 abbrev pub next : {A : Type 0} → (List ℕ → Option A) → Left → Result (A × Left) ℕ
 next read left = next_of read left.column left.words
 

@@ -30,6 +30,7 @@ check_area file issued offset len =
 abbrev pub unless_empty : ℕ → Option Refusal → Option (Result (Unit {0}) Refusal)
 unless_empty len check = if len == 0 then Some (Ok tt) else as_refused check
 
+-- a refusal goes before the rest, even where that is Ok at once
 abbrev pub rights_then : Option Refusal → Option (Result (Unit {0}) Refusal) → Option (Result (Unit {0}) Refusal)
 rights_then (Some refusal) rest = Some (Err refusal)
 rights_then None rest = rest
@@ -54,6 +55,7 @@ grown file shown len = record shown {
   held_open = shown.held_open && not (file.sequential && (shown.size + len == capacity_of file));
 }
 
+-- the file shows what a write leaves; the rest of the volume stays
 abbrev pub grown_volume : Volume → ℕ → ℕ → Volume
 grown_volume v f len = record v { inodes = with_shown v.inodes f (grown (file_at v.inodes f) (shown_at v.inodes f) len) }
 
@@ -66,11 +68,13 @@ abbrev pub after_write : Reply → Mounted → ℕ → ℕ → Answer (Unit {0})
 after_write (Ok unit) m f len = answered tt (record m { volume = grown_volume m.volume f len })
 after_write (Err error) m f len = as_answer (after_failure false error m f)
 
+-- a write that passed its checks: its orders go to the device, and their reply decides the rest
 unfoldable pub write_now : Mounted → ℕ → ℕ → List ℕ → Answer (Unit {0})
 write_now m f offset bytes =
     let orders = issue_all m.world (write_orders m.volume f offset bytes) in
     after_write orders.reply (record m { world = orders.world }) f (length bytes)
 
+-- a handle that isn't live is refused; else the checks give the reply, or the bytes are written
 abbrev pub write_by : Option Live → Mounted → ℕ → List ℕ → Answer (Unit {0})
 write_by None m offset bytes = refused BadHandle m
 write_by (Some live) m offset bytes = unless (check_write m.volume live offset (length bytes)) m (write_now m live.file offset bytes)

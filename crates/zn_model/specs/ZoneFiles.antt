@@ -18,6 +18,7 @@ pub record Layout : Type 0 where
   pub cnv : List FileZones
   pub seq : List FileZones
 
+-- any kind but sequential
 abbrev pub is_conventional : Kind → Bool
 is_conventional kind = not (is_sequential kind)
 
@@ -36,9 +37,11 @@ begins_cnv aggr kinds z =
 abbrev pub run_length : List Kind → ℕ → ℕ
 run_length kinds z = length (take_while is_conventional (drop z kinds))
 
+-- one zone, or with aggregation the run that begins there, with room for all blocks of each
 abbrev pub cnv_file : Bool → Geometry → ℕ → FileZones
 cnv_file aggr g z = record { first = z; zones = if aggr then run_length g.kinds z else 1; room = g.shape.zone_blocks; sequential = false }
 
+-- one zone, with room for the blocks of the zone capacity
 abbrev pub seq_file : Geometry → ℕ → FileZones
 seq_file g z = record { first = z; zones = 1; room = g.shape.zone_capacity; sequential = true }
 
@@ -64,9 +67,11 @@ capacity_of file = 4096 * room_of file
 
 -- ---- names
 
+-- `cnv/` and the file's place among the files of `cnv`, in decimal
 abbrev pub cnv_path : ℕ → List ℕ
 cnv_path i = codes "cnv/" ++ decimal i
 
+-- `seq/` and the file's place among the files of `seq`, in decimal
 abbrev pub seq_path : ℕ → List ℕ
 seq_path i = codes "seq/" ++ decimal i
 
@@ -87,6 +92,7 @@ directories_of layout =
 abbrev pub names_to : ℕ → List (List ℕ)
 names_to n = map decimal (range_with_len 0 n)
 
+-- a directory without files does not exist
 abbrev pub some_names : ℕ → Option (List (List ℕ))
 some_names n = if n == 0 then None else Some (names_to n)
 
@@ -100,13 +106,16 @@ listing_of layout path =
 
 -- ---- places
 
+-- the zone is one of the file's
 abbrev pub has_zone : ℕ → FileZones → Bool
 has_zone z file = nat_le file.first z && nat_lt z (file.first + file.zones)
 
+-- in the file of `seq` that has the zone, or nowhere
 abbrev pub seq_place : Option ℕ → Place
 seq_place None = Unplaced
 seq_place (Some i) = Seq i
 
+-- in the file of `cnv` that has the zone, or else by the files of `seq`
 abbrev pub cnv_place : Option ℕ → Option ℕ → Place
 cnv_place None seq = seq_place seq
 cnv_place (Some i) seq = Cnv i

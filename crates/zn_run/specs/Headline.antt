@@ -21,6 +21,7 @@ abbrev pub Closes : Status → Status → List ℕ → Option (List ℕ) → Opt
 Closes result status text told0 told before now =
     ((result ≡ status) × Grew told0 told text × (now ≡ before)) ⊎ ((result ≡ WriteFault) × GrewToward told0 told text × HasRisen before now)
 
+-- the same, as one clause of the functions that end a run
 pub record Closed (result status : Status) (text : List ℕ) (told0 told : Option (List ℕ)) (before now : ℕ) : Type 0 where
   pub means : Closes result status text told0 told before now
 
@@ -66,6 +67,7 @@ pub record RanCut (tail : Tail) (first : ℕ) (script : List ℕ) (old new : Sta
   pub told : Grew old.told new.told (reached.out ++ front)
   pub risen : HasRisen old.faults new.faults
 
+-- what each status says of a run of these bytes; none has the status `Usage` or `Directory`
 abbrev pub RanMeans : Status → Tail → ℕ → List ℕ → State → State → Type 0
 RanMeans Done tail first script old new = RanWhole Done tail (transcript_at tail old.table first script) old new
 RanMeans Usage tail first script old new = ⊥
@@ -76,6 +78,7 @@ RanMeans ReadFault tail first script old new = RanWhole ReadFault tail (transcri
 RanMeans WriteFault tail first script old new = RanCut tail first script old new
 RanMeans Memory tail first script old new = RanStarved first script old new
 
+-- the run did what its status says
 pub record Ran (status : Status) (tail : Tail) (first : ℕ) (script : List ℕ) (old new : State) : Type 0 where
   pub means : RanMeans status tail first script old new
 

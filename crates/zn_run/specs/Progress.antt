@@ -31,6 +31,7 @@ pub record Reached (table0 : Table) (first : ℕ) (script : List ℕ) : Type 0 w
   pub cut : script ≡ before ++ rest
   pub lines : WholeLines table0 first before out table number
 
+-- what stands before the first newline
 abbrev pub first_line : List ℕ → List ℕ
 first_line bytes = before_first is_newline bytes
 
@@ -92,6 +93,7 @@ pub record IsStarved (old new : State) (first : ℕ) (script : List ℕ) : Type 
   pub told : Grew old.told new.told reached.out
   pub counts : SameCounts old new
 
+-- what is so, by where and why the lines stopped
 abbrev pub HaltMeans : Halt → ℕ → List ℕ → State → State → Type 0
 HaltMeans (Rest at number) first script old new = IsRest old new first script at number
 HaltMeans (Ended ending) first script old new = IsEnded old new first script ending

@@ -3,6 +3,7 @@ use Rattle.std.specs.Prelude.{◌≡◌, ℕ, ◌≤◌, Bool, List, Option}
 use Rattle.zn_base.specs.Causes.{Rose}
 use Rattle.zn_model.specs.Session.{Table}
 
+-- the machine and the sink, as contracts see them
 pub record State : Type 0 where
   -- the machine's table
   pub table : Table
@@ -15,6 +16,7 @@ pub record State : Type 0 where
   -- how often the sink has failed
   pub faults : ℕ
 
+-- the state with these parts
 abbrev pub state_of : Table → Bool → ℕ → Option (List ℕ) → ℕ → State
 state_of table over breaks told faults = record { table = table; over = over; breaks = breaks; told = told; faults = faults }
 

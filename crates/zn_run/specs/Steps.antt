@@ -25,6 +25,7 @@ DoneBy (Ok None) old new = Unmoved old new
 DoneBy (Ok (Some line)) old new = Answered line old new
 DoneBy (Err column) old new = ⊥
 
+-- what is due for the line is done, and the machine takes further lines
 pub record LineDone (reading : Result (Option Line) ℕ) (old new : State) : Type 0 where
   pub means : DoneBy reading old new
   pub goes_on : new.over ≡ false
@@ -61,6 +62,7 @@ pub record LineStarved (reading : Result (Option Line) ℕ) (old new : State) : 
   pub counts : SameCounts old new
   pub over : new.over ≡ true
 
+-- what is so, by what became of the line
 abbrev pub StepMeans : Step → Result (Option Line) ℕ → State → State → Type 0
 StepMeans Done reading old new = LineDone reading old new
 StepMeans (BadLine column) reading old new = LineBad column reading old new

@@ -179,6 +179,7 @@ WrittenFirst = rows (WriteAt 0 0 (zeros 1)) ≡ (Ok tt, 1, 0, false)
     ∷ (Err offline, 0, 0, false)
     ∷ []
 
+-- an open: what is held stays, and a full zone does not become explicitly open
 abbrev pub Opened : Type 0
 Opened = rows (Manage 0 Open) ≡ (Ok tt, 0, 0, true)
     ∷ (Ok tt, 2, 1, true)
@@ -188,6 +189,7 @@ Opened = rows (Manage 0 Open) ≡ (Ok tt, 0, 0, true)
     ∷ (Err offline, 0, 0, false)
     ∷ []
 
+-- a close: what is held stays, and no zone is explicitly open
 abbrev pub Closed : Type 0
 Closed = rows (Manage 0 Close) ≡ (Ok tt, 0, 0, false)
     ∷ (Ok tt, 2, 1, false)
@@ -197,6 +199,7 @@ Closed = rows (Manage 0 Close) ≡ (Ok tt, 0, 0, false)
     ∷ (Err offline, 0, 0, false)
     ∷ []
 
+-- a reset: each good zone then holds nothing, and is not explicitly open
 abbrev pub Emptied : Type 0
 Emptied = rows (Manage 0 Reset) ≡ (Ok tt, 0, 0, false)
     ∷ (Ok tt, 0, 0, false)
@@ -206,6 +209,7 @@ Emptied = rows (Manage 0 Reset) ≡ (Ok tt, 0, 0, false)
     ∷ (Err offline, 0, 0, false)
     ∷ []
 
+-- a finish: each good zone is then full, and durable as a whole
 abbrev pub Finished : Type 0
 Finished = rows (Manage 0 Finish) ≡ (Ok tt, 4, 4, false)
     ∷ (Ok tt, 4, 4, false)

@@ -17,9 +17,11 @@ use Rattle.zn_truth.specs.Loss.{turned}
 use Rattle.zn_truth.specs.Power.{lost}
 use Rattle.zn_truth.specs.World.{World}
 
+-- the answer to a fault, turn or loss: success without a value, or why it is refused
 abbrev pub InjectReply : Type 0
 InjectReply = Result (Unit {0}) InjectError
 
+-- the reply and the world after it
 pub record Injected : Type 0 where
   pub reply : InjectReply
   pub world : World
@@ -30,6 +32,7 @@ unless_bad bad w new = if bad then record { reply = Err BadFault; world = w } el
 
 -- ---- tests
 
+-- the number is below the number of zones
 abbrev pub is_zone : Truth → ℕ → Bool
 is_zone t z = nat_lt z (length t.zones)
 
@@ -79,6 +82,7 @@ abbrev pub repeats : List (ZoneNo × ℕ) → Bool
 repeats [] = false
 repeats (cut ∷ cuts) = list_any (λ other. other.0.0 == cut.0.0) cuts || repeats cuts
 
+-- one of the cuts is bad, or two of them name the same zone
 abbrev pub are_bad_cuts : Truth → List (ZoneNo × ℕ) → Bool
 are_bad_cuts t cuts = list_any (is_bad_cut t) cuts || repeats cuts
 
@@ -88,6 +92,7 @@ is_outside t cut = nat_lt cut.1 (zone_at t cut.0.0).durable || nat_lt (zone_at t
 
 -- ---- faults
 
+-- a command that can't come on the zone, or blocks kept by one that isn't done in part
 abbrev pub is_bad_fault : Truth → FaultSpec → Bool
 is_bad_fault t fault = is_misplaced t fault.zone.0 fault.command || (is_some fault.keep && not (may_keep fault.command))
 
@@ -101,6 +106,7 @@ inject w fault =
 
 -- ---- turns of condition
 
+-- the rank of a condition: a turn is to a higher one
 abbrev pub severity : Cond → ℕ
 severity Good = 0
 severity ReadOnly = 1

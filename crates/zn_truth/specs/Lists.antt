@@ -49,6 +49,7 @@ is_answered (Err Broken) = false
 is_answered (Err Memory) = false
 is_answered (Err error) = true
 
+-- the reply tells neither a break nor want of memory
 abbrev pub IsAnswered : Reply → Type 0
 IsAnswered reply = IsTrue (is_answered reply)
 

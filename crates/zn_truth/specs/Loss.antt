@@ -20,6 +20,7 @@ pub record KeepsFlushed (old new : Zone) : Type 0 where
   pub held : new.held ≡ old.held
   pub blocks : (k : ℕ) → k < old.held → slice_index_or old.unflushed k false ≡ false → take 4096 (drop (4096 * k) new.bytes) ≡ take 4096 (drop (4096 * k) old.bytes)
 
+-- by its kind, a zone keeps each flushed block, or its durable ones
 abbrev pub Keeps : Kind → Zone → Zone → Type 0
 Keeps Conventional old new = KeepsFlushed old new
 Keeps Sequential old new = KeepsDurable old new
@@ -59,6 +60,7 @@ abbrev pub stages_unless : Option DevError → Truth → Order → List Truth
 stages_unless None t order = stages t order
 stages_unless (Some error) t order = t ∷ []
 
+-- a loss of one of these truths
 abbrev pub IsLossOfOne : List Truth → Truth → Type 0
 IsLossOfOne [] new = ⊥
 IsLossOfOne (t ∷ []) new = IsLossOf t new

@@ -47,6 +47,7 @@ abbrev pub writing : Kind → Truth → Zone → ℕ → Option DevError
 writing Conventional t zone at = None
 writing Sequential t zone at = if zone.held == at then opening t zone else Some Unaligned
 
+-- what refuses a command that manages a good zone: an open may meet a limit, the others meet nothing
 abbrev pub managing : ZoneOp → Truth → Zone → Option DevError
 managing Open t zone = opening t zone
 managing Close t zone = None
@@ -109,6 +110,7 @@ effect t (Manage z op) = with_zone t z (managed op t.shape (zone_at t z))
 effect t FlushAll = record t { zones = map flushed t.zones }
 effect t (ReportFrom first n) = t
 
+-- what the device answers: success without a value, or an error
 abbrev pub Reply : Type 0
 Reply = Result (Unit {0}) DevError
 
@@ -117,6 +119,7 @@ pub record Done : Type 0 where
   pub reply : Reply
   pub truth : Truth
 
+-- an order that is refused changes nothing, and any other has its effect
 abbrev pub done_unless : Option DevError → Truth → Order → Done
 done_unless (Some error) t order = record { reply = Err error; truth = t }
 done_unless None t order = record { reply = Ok tt; truth = effect t order }

@@ -32,6 +32,7 @@ with_filled_blocks byte [] bytes = bytes
 with_filled_blocks byte (flag ∷ flags) bytes =
     (if flag then replicate (min 4096 (length bytes)) byte else take 4096 bytes) ++ with_filled_blocks byte flags (drop 4096 bytes)
 
+-- the same, if a byte is given; else the bytes stay
 abbrev pub with_fill_unflushed : Option ℕ → List Bool → List ℕ → List ℕ
 with_fill_unflushed None flags bytes = bytes
 with_fill_unflushed (Some byte) flags bytes = with_filled_blocks byte flags bytes
@@ -48,6 +49,7 @@ zone_lost Conventional zone z loss = record zone {
 zone_lost Sequential zone z loss =
     record (settled zone zone.durable (clamped zone (unwrap_or (cut_of loss.cuts z) zone.durable)) loss.fill) { explicit = false }
 
+-- the zones after the power went, of which the first has the number `z`; bytes only where they are told
 abbrev pub zones_lost : Bool → ℕ → List Zone → LossSpec → List Zone
 zones_lost told z [] loss = []
 zones_lost told z (zone ∷ zones) loss = seen told (zone_lost zone.kind zone z loss) ∷ zones_lost told (z + 1) zones loss
@@ -72,6 +74,7 @@ cut_write t z at bytes loss =
     with_zone after z (settled (zone_at after z) (zone_at after z).held (zone_at after z).held None))
     else before
 
+-- a write to a sequential zone (true) is cut short, one to a conventional zone is whole
 abbrev pub write_during : Bool → Truth → ℕ → ℕ → List ℕ → LossSpec → Truth
 write_during true t z at bytes loss = cut_write t z at bytes loss
 write_during false t z at bytes loss = (done t (WriteAt z at bytes)).truth

@@ -16,6 +16,7 @@ use Rattle.zn_truth.specs.Inject.{inject, arm_loss, turn, lose_power, power_on}
 abbrev pub IssueKeepsSound : Type 0
 IssueKeepsSound = (w : World) (order : Order) → IsSound w.truth → IsOrderFor (geometry_of w) order → IsSound (issue w order).world.truth
 
+-- an order leaves the geometry as it was, whatever becomes of it
 abbrev pub IssueKeepsGeometry : Type 0
 IssueKeepsGeometry = (w : World) (order : Order) → geometry_of (issue w order).world ≡ geometry_of w
 
@@ -23,6 +24,7 @@ IssueKeepsGeometry = (w : World) (order : Order) → geometry_of (issue w order)
 abbrev pub IssueAllKeepsSound : Type 0
 IssueAllKeepsSound = (w : World) (orders : List Order) → IsSound w.truth → All (IsOrderFor (geometry_of w)) orders → IsSound (issue_all w orders).world.truth
 
+-- orders one after another leave the geometry as it was
 abbrev pub IssueAllKeepsGeometry : Type 0
 IssueAllKeepsGeometry = (w : World) (orders : List Order) → geometry_of (issue_all w orders).world ≡ geometry_of w
 
@@ -30,6 +32,7 @@ IssueAllKeepsGeometry = (w : World) (orders : List Order) → geometry_of (issue
 abbrev pub TurnKeepsSound : Type 0
 TurnKeepsSound = (w : World) (z : ℕ) (to : Cond) → IsSound w.truth → IsSound (turn w z to).world.truth
 
+-- a turn of condition, refused or not, leaves the geometry as it was
 abbrev pub TurnKeepsGeometry : Type 0
 TurnKeepsGeometry = (w : World) (z : ℕ) (to : Cond) → geometry_of (turn w z to).world ≡ geometry_of w
 
@@ -37,6 +40,7 @@ TurnKeepsGeometry = (w : World) (z : ℕ) (to : Cond) → geometry_of (turn w z 
 abbrev pub LosePowerKeepsSound : Type 0
 LosePowerKeepsSound = (w : World) (loss : LossSpec) → IsSound w.truth → IsSound (lose_power w loss).world.truth
 
+-- a loss of power at rest, refused or not, leaves the geometry as it was
 abbrev pub LosePowerKeepsGeometry : Type 0
 LosePowerKeepsGeometry = (w : World) (loss : LossSpec) → geometry_of (lose_power w loss).world ≡ geometry_of w
 
@@ -49,6 +53,7 @@ pub record LeavesTruth (old new : World) : Type 0 where
 abbrev pub InjectKeepsTruth : Type 0
 InjectKeepsTruth = (w : World) (fault : FaultSpec) → LeavesTruth w (inject w fault).world
 
+-- a loss that is told to wait for a command leaves what is held, and the power
 abbrev pub ArmLossKeepsTruth : Type 0
 ArmLossKeepsTruth = (w : World) (armed : Armed) → LeavesTruth w (arm_loss w armed).world
 

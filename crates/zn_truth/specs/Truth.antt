@@ -20,9 +20,11 @@ abbrev pub room : Shape → Kind → ℕ
 room shape Conventional = shape.zone_blocks
 room shape Sequential = shape.zone_capacity
 
+-- the kind of the zone with this number; one that isn't there counts as sequential
 abbrev pub kind_at : Geometry → ℕ → Kind
 kind_at g z = slice_index_or g.kinds z Sequential
 
+-- whether zones of this kind take a write only where what they hold ends
 abbrev pub is_sequential : Kind → Bool
 is_sequential Conventional = false
 is_sequential Sequential = true
@@ -51,6 +53,7 @@ pub record Truth : Type 0 where
 abbrev pub no_zone : Zone
 no_zone = record { kind = Sequential; cond = Offline; held = 0; bytes = []; durable = 0; unflushed = []; explicit = false }
 
+-- the zone with this number, or one that no device has
 abbrev pub zone_at : Truth → ℕ → Zone
 zone_at t z = slice_index_or t.zones z no_zone
 
@@ -62,14 +65,17 @@ seen told zone = record zone { bytes = if told then zone.bytes else [] }
 abbrev pub with_zone : Truth → ℕ → Zone → Truth
 with_zone t z zone = record t { zones = slice_set t.zones z (seen t.told zone) }
 
+-- the shape, and the kind of each zone
 abbrev pub geometry : Truth → Geometry
 geometry t = record { shape = t.shape; kinds = map (λ zone. zone.kind) t.zones }
 
+-- neither read-only nor offline
 abbrev pub is_good : Cond → Bool
 is_good Good = true
 is_good ReadOnly = false
 is_good Offline = false
 
+-- the condition in which a zone can neither be read nor changed
 abbrev pub is_offline : Cond → Bool
 is_offline Good = false
 is_offline ReadOnly = false
@@ -89,9 +95,11 @@ bytes_at t z at n = take (4096 * n) (drop (4096 * at) (zone_at t z).bytes)
 abbrev pub is_active : Shape → Zone → Bool
 is_active shape zone = is_sequential zone.kind && is_good zone.cond && (zone.explicit || (nat_lt 0 zone.held && nat_lt zone.held shape.zone_capacity))
 
+-- how many zones count toward the limit of active ones
 abbrev pub active : Truth → ℕ
 active t = count_by (is_active t.shape) t.zones
 
+-- how many zones are explicitly open
 abbrev pub explicit : Truth → ℕ
 explicit t = count_by (λ zone. zone.explicit) t.zones
 
@@ -123,6 +131,7 @@ pub record IsSoundZone (told : Bool) (shape : Shape) (zone : Zone) : Type 0 wher
   -- only a good sequential zone that isn't full is explicitly open
   pub explicit : IsTrue zone.explicit → IsTrue (is_sequential zone.kind && is_good zone.cond && nat_lt zone.held shape.zone_capacity)
 
+-- each zone is sound, and no more are active or explicitly open than the limits allow
 pub record IsSound (t : Truth) : Type 0 where
   pub zones : (z : ℕ) → z < length t.zones → IsSoundZone t.told t.shape (zone_at t z)
   pub active : 0 < t.shape.max_active → active t ≤ t.shape.max_active

@@ -19,6 +19,7 @@ pub record World : Type 0 where
   pub pending : List FaultSpec
   pub armed : Option Armed
 
+-- the reply and the world after it
 pub record Outcome : Type 0 where
   pub reply : Reply
   pub world : World
@@ -29,6 +30,7 @@ geometry_of w = geometry w.truth
 
 -- ---- which command a fault or a loss waits for
 
+-- a number for each command, by which they are compared
 abbrev pub code_of : Command → ℕ
 code_of Read = 0
 code_of Write = 1
@@ -39,12 +41,14 @@ code_of Open = 5
 code_of Close = 6
 code_of Report = 7
 
+-- the command that manages a zone in this way
 abbrev pub command_of_op : ZoneOp → Command
 command_of_op do_open = Open
 command_of_op do_close = Close
 command_of_op do_reset = Reset
 command_of_op do_finish = Finish
 
+-- the command that the order is
 abbrev pub command_of : Order → Command
 command_of (ReadAt z at n) = Read
 command_of (WriteAt z at bytes) = Write
@@ -52,6 +56,7 @@ command_of (Manage z op) = command_of_op op
 command_of FlushAll = Flush
 command_of (ReportFrom first n) = Report
 
+-- whether the zone is among these
 abbrev pub has_zone : Span → ℕ → Bool
 has_zone zones z = zones.all || (nat_le zones.first z && nat_lt z (zones.first + zones.count))
 
@@ -67,13 +72,16 @@ zones_of (ReportFrom first n) = record { all = false; first = first; count = n }
 abbrev pub meets : Command → Span → Command → ℕ → Bool
 meets command zones other z = (code_of other == code_of command) && has_zone zones z
 
+-- whether the command, on these zones, is what the fault waits for
 abbrev pub meets_fault : Command → Span → FaultSpec → Bool
 meets_fault command zones fault = meets command zones fault.command fault.zone.0
 
+-- the fault at this place, if one is given
 abbrev pub fault_at : List FaultSpec → Option ℕ → Option FaultSpec
 fault_at faults None = None
 fault_at faults (Some i) = slice_get faults i
 
+-- the faults but the one at this place, if one is given
 abbrev pub without : List FaultSpec → Option ℕ → List FaultSpec
 without faults None = faults
 without faults (Some i) = remove faults i
@@ -82,11 +90,13 @@ without faults (Some i) = remove faults i
 unfoldable pub met : Command → Span → List FaultSpec → Option FaultSpec
 met command zones faults = fault_at faults (position (meets_fault command zones) faults)
 
+-- all faults but the first that the command meets
 unfoldable pub unmet : Command → Span → List FaultSpec → List FaultSpec
 unmet command zones faults = without faults (position (meets_fault command zones) faults)
 
 -- ---- faults
 
+-- a success becomes the fault, and an error stays
 abbrev pub as_fault : Reply → Reply
 as_fault (Ok unit) = Err Fault
 as_fault (Err error) = Err error
@@ -131,9 +141,11 @@ abbrev pub struck : Truth → List FaultSpec → List FaultSpec → Option Armed
 struck t pending rest armed order None = outcome (done t order) pending armed
 struck t pending rest armed order (Some fault) = outcome (faulted t order fault) rest armed
 
+-- an order that no armed loss strikes, with the faults that wait in this world
 abbrev pub unarmed : World → Order → Option Armed → Outcome
 unarmed w order armed = struck w.truth w.pending (unmet (command_of order) (zones_of order) w.pending) armed order (met (command_of order) (zones_of order) w.pending)
 
+-- the armed loss strikes an order that it waits for, and any other leaves it armed
 abbrev pub issue_armed : World → Order → Option Armed → Outcome
 issue_armed w order None = unarmed w order None
 issue_armed w order (Some armed) =

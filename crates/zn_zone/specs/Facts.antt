@@ -22,6 +22,7 @@ pub record Facts : Type 0 where
   pub shape : Shape
   pub zones : List ZoneFacts
 
+-- the facts of a zone
 abbrev pub zone_facts : Zone → ZoneFacts
 zone_facts zone = record { kind = zone.kind; cond = zone.cond; held = zone.held; explicit = zone.explicit }
 
@@ -29,6 +30,7 @@ zone_facts zone = record { kind = zone.kind; cond = zone.cond; held = zone.held;
 abbrev pub facts_of : Truth → Facts
 facts_of t = record { shape = t.shape; zones = map zone_facts t.zones }
 
+-- the facts of the zone with this number, or of one that no device has
 abbrev pub facts_at : Facts → ℕ → ZoneFacts
 facts_at f z = slice_index_or f.zones z (zone_facts no_zone)
 
@@ -82,6 +84,7 @@ pub record IsStartZone (shape : Shape) (zone : ZoneFacts) : Type 0 where
   pub sequential : IsTrue (is_sequential zone.kind) → zone.held ≤ shape.zone_capacity
   pub offline : IsTrue (is_offline zone.cond) → zone.held ≡ 0
 
+-- each zone is as it may be at the start, and no more are active than the limit allows
 pub record IsStart (f : Facts) : Type 0 where
   pub zones : (z : ℕ) → z < length f.zones → IsStartZone f.shape (facts_at f z)
   pub active : 0 < f.shape.max_active → active (bare f) ≤ f.shape.max_active

@@ -10,9 +10,11 @@ pub record Store : Type 0 where
   pub durable : ℕ
   pub unflushed : List Bool
 
+-- the bytes of a zone, and what of them is durable
 abbrev pub store_of : Zone → Store
 store_of zone = record { bytes = zone.bytes; durable = zone.durable; unflushed = zone.unflushed }
 
+-- the same of each zone of a truth
 abbrev pub stores_of : Truth → List Store
 stores_of t = map store_of t.zones
 

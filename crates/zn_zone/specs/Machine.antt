@@ -34,12 +34,15 @@ pub record Machine : Type 0 where
 abbrev pub no_state : State
 no_state = record { kind = Sequential; raw = Offline; held = 0 }
 
+-- the state of the zone with this number, or of one that no device has
 abbrev pub state_in : List State → ℕ → State
 state_in zones z = slice_index_or zones z no_state
 
+-- the same, in a machine
 abbrev pub state_at : Machine → ℕ → State
 state_at m z = state_in m.zones z
 
+-- a machine of these zones, with this shape
 abbrev pub machine : Shape → List State → Machine
 machine shape zones = record { shape = shape; zones = zones }
 
@@ -82,9 +85,11 @@ unless (Some error) = Err error
 
 -- ---- places
 
+-- how many zones are open, explicitly or implicitly, or closed
 abbrev pub active_in : List State → ℕ
 active_in zones = count_by (λ zone. is_active zone.raw) zones
 
+-- how many zones are open, explicitly or implicitly
 abbrev pub open_in : List State → ℕ
 open_in zones = count_by (λ zone. is_open zone.raw) zones
 
@@ -96,6 +101,7 @@ HasActivePlace m = 0 < m.shape.max_active → active_in m.zones < m.shape.max_ac
 abbrev pub first_implicit : List State → Option ℕ
 first_implicit zones = position (λ zone. is_implicit zone.raw) zones
 
+-- the zone in condition `Closed`, with what it holds
 abbrev pub closed : State → State
 closed zone = record zone { raw = Closed }
 
@@ -104,6 +110,7 @@ abbrev pub closed_at : List State → Option ℕ → List State
 closed_at zones None = zones
 closed_at zones (Some i) = slice_set zones i (closed (state_in zones i))
 
+-- whether this is the place, if one is given
 abbrev pub is_at : Option ℕ → ℕ → Bool
 is_at None k = false
 is_at (Some i) k = i == k
@@ -116,6 +123,7 @@ with_open_place shape zones = if is_reached shape.max_open (open_in zones) then 
 abbrev pub no_open_place : Shape → List State → Option ZoneError
 no_open_place shape zones = if is_reached shape.max_open (open_in zones) && is_none (first_implicit zones) then Some TooManyOpen else None
 
+-- the zones with an open place free, where one is needed and can be freed
 abbrev pub with_places : Shape → List State → Places → List State
 with_places shape zones NoPlace = zones
 with_places shape zones OpenPlace = with_open_place shape zones
@@ -147,6 +155,7 @@ written_by Sequential m z blocks = record m {
   zones = stepped m.shape m.zones z (Write ((state_at m z).held + blocks == m.shape.zone_capacity)) ((state_at m z).held + blocks);
 }
 
+-- the same, by the kind of the zone itself
 abbrev pub written : Machine → ℕ → ℕ → Machine
 written m z blocks = written_by (state_at m z).kind m z blocks
 
@@ -220,6 +229,7 @@ raw_cut shape Closed len = if len == 0 then Empty else Closed
 raw_cut shape Full len = resting shape len
 raw_cut shape raw len = raw
 
+-- the zone cut to so many blocks, with the condition that it then has
 abbrev pub cut_to : Shape → State → ℕ → State
 cut_to shape zone len = record zone { raw = raw_cut shape zone.raw len; held = len }
 
@@ -229,6 +239,7 @@ raw_at_rest ImplicitOpen held = Closed
 raw_at_rest ExplicitOpen held = if held == 0 then Empty else Closed
 raw_at_rest raw held = raw
 
+-- the zone as a close leaves it, if it is open
 abbrev pub at_rest : State → State
 at_rest zone = record zone { raw = raw_at_rest zone.raw zone.held }
 
@@ -239,6 +250,7 @@ abbrev pub raw_good : Kind → Shape → ℕ → Raw
 raw_good Conventional shape held = NotWp
 raw_good Sequential shape held = resting shape held
 
+-- the condition of a zone that isn't open, by what a report tells of it
 abbrev pub raw_at_start : Cond → Kind → Shape → ℕ → Raw
 raw_at_start Good kind shape held = raw_good kind shape held
 raw_at_start read_only kind shape held = ReadOnly

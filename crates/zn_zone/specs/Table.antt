@@ -12,6 +12,7 @@ use Rattle.zn_zone.specs.declared.table.Places.TheVariants.{NoPlace, OpenPlace, 
 
 -- ---- kinds of conditions
 
+-- opened by a write
 abbrev pub is_implicit : Raw → Bool
 is_implicit ImplicitOpen = true
 is_implicit NotWp = false
@@ -22,6 +23,7 @@ is_implicit Full = false
 is_implicit ReadOnly = false
 is_implicit Offline = false
 
+-- opened by a command
 abbrev pub is_explicit : Raw → Bool
 is_explicit ExplicitOpen = true
 is_explicit NotWp = false
@@ -32,6 +34,7 @@ is_explicit Full = false
 is_explicit ReadOnly = false
 is_explicit Offline = false
 
+-- opened, by a write or by a command
 abbrev pub is_open : Raw → Bool
 is_open ImplicitOpen = true
 is_open ExplicitOpen = true
@@ -42,6 +45,7 @@ is_open Full = false
 is_open ReadOnly = false
 is_open Offline = false
 
+-- open, or closed while partly written
 abbrev pub is_active : Raw → Bool
 is_active ImplicitOpen = true
 is_active ExplicitOpen = true
