@@ -117,3 +117,8 @@ pub trait Zoned {
 
     ghost is_within: { (d : Self) → IsWithinLimits (geometry_of (world d)) };
 }
+
+/// A device that tells its bytes.
+pub trait Tells: Zoned {
+    ghost is_told: { (d : Self) → (Self.world d).truth.told ≡ true };
+}

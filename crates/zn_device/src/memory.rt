@@ -7,10 +7,10 @@ ghost use Rattle.zn_zone.specs.Machine.{facts};
 ghost use Rattle.zn_device.specs.Fresh.{fresh};
 ghost use Rattle.zn_device.specs.Seen.{truth_of, IsSoundDevice};
 
-use crate::Zoned;
 use crate::commands::{flush_all, manage_at, read_at, report_from, write_at};
 use crate::fresh::{fresh_infos, fresh_stores};
 use crate::store::Store;
+use crate::{Tells, Zoned};
 use std::alloc::{AllocError, Global};
 use zn_truth::{DevError, Kind, Shape, ZoneInfo, ZoneNo, ZoneOp};
 use zn_zone::Zones;
@@ -101,6 +101,12 @@ impl Zoned for MemDevice {
     fn breaks(&self) -> u64 {
         0
     }
+}
+
+impl Tells for MemDevice {
+    ghost use Rattle.std.specs.Prelude.{refl};
+
+    ghost is_told = { λ d. refl };
 }
 
 #[cfg(test)]

@@ -183,4 +183,11 @@ impl Handles {
     {
         self.slots.len() as u32
     }
+
+    /// How many handles were opened: the generation of the next one.
+    pub fn opened(&self) -> u64
+        ensures { result ≡ self.now.handles.opened }
+    {
+        self.opened
+    }
 }

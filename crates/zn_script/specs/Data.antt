@@ -2,11 +2,12 @@
 use Rattle.std.specs.Prelude.{◌≡◌, ◌≤◌, ℕ, ◌+◌, List, ◌++◌, length, take, replicate, IsSome, Option, Some, None}
 use Rattle.zn_base.specs.Runs.{Run}
 use Rattle.zn_model.specs.Lines.{bytes_of}
-use Rattle.zn_model.specs.Grammar.{most_bytes, part_of, part_then, data_of}
+use Rattle.zn_model.specs.Grammar.{last_number, most_bytes, part_of, part_then, data_of}
 use Rattle.zn_script.specs.declared.data.Part.{Part}
 use Rattle.zn_script.specs.declared.Line.{Line}
-use Rattle.zn_script.specs.declared.Line.TheVariants.{Write}
+use Rattle.zn_script.specs.declared.Line.TheVariants.{Open, Close, Size, Read, Write, Stat, List as Listing, Change}
 
+-- the byte of the part, as often as the part counts
 abbrev pub run_meant : Part → Run
 run_meant p = record { byte = p.byte; count = p.count }
 
@@ -30,7 +31,13 @@ pub record HasLength (word : List ℕ) (n : ℕ) : Type 0 where
   pub read : data_of word ≡ Some runs
   pub sized : length (bytes_of runs) ≡ n
 
--- what a line writes is data
-abbrev pub WritesData : Line → Type 0
-WritesData (Write number offset word) = IsSome (data_of word.now)
-WritesData _ = Unit {0}
+-- a line's number is one that handles have, what it reads is not too long, and what it writes is data
+abbrev pub CallFits : Line → Type 0
+CallFits (Open number path mode) = number ≤ last_number
+CallFits (Close number) = number ≤ last_number
+CallFits (Size number) = number ≤ last_number
+CallFits (Read number offset len) = (number ≤ last_number) × (len ≤ most_bytes)
+CallFits (Write number offset word) = (number ≤ last_number) × IsSome (data_of word.now)
+CallFits (Stat path) = Unit {0}
+CallFits (Listing path) = Unit {0}
+CallFits (Change change) = Unit {0}

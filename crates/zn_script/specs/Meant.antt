@@ -4,7 +4,7 @@ use Rattle.zn_base.specs.Runs.{Run}
 use Rattle.zn_model.specs.Grammar as grammar
 use Rattle.zn_model.specs.Grammar.{data_of, root}
 use Rattle.zn_model.specs.Lines as lines
-use Rattle.zn_script.specs.Data.{WritesData}
+use Rattle.zn_script.specs.Data.{CallFits}
 use Rattle.zn_script.specs.declared.Verb.{Verb}
 use Rattle.zn_script.specs.declared.Verb.TheVariants.{Open, Close, Size, Read, Write, Stat, Listing, Create, Remove, Rename, Chmod, Chown}
 use Rattle.zn_script.specs.declared.Line.{Line}
@@ -12,6 +12,7 @@ use Rattle.zn_script.specs.declared.Line.TheVariants.{Open as OpenLine, Close as
 use Rattle.zn_script.specs.declared.Change.{Change}
 use Rattle.zn_script.specs.declared.Change.TheVariants.{Create as created, Remove as removed, Rename as renamed, Chmod as mode_changed, Chown as owner_changed}
 
+-- the verb as the grammar has it
 abbrev pub verb_meant : Verb → grammar.Verb
 verb_meant Open = grammar.Open
 verb_meant Close = grammar.Close
@@ -26,6 +27,7 @@ verb_meant Rename = grammar.Renaming
 verb_meant Chmod = grammar.ChangingMode
 verb_meant Chown = grammar.ChangingOwner
 
+-- the change as the lines of the model have it
 abbrev pub change_meant : Change → lines.Change
 change_meant created = lines.Create
 change_meant removed = lines.Remove
@@ -37,6 +39,7 @@ change_meant owner_changed = lines.Chown
 abbrev pub runs_meant : List ℕ → List Run
 runs_meant word = unwrap_or (data_of word) []
 
+-- the line as the model has it; files are opened as root, and data is the runs that it means
 abbrev pub line_meant : Line → lines.Line
 line_meant (OpenLine number path mode) = lines.OpenFile number path.now mode root
 line_meant (CloseLine number) = lines.CloseFile number
@@ -52,7 +55,7 @@ abbrev pub reading_meant : Option Line → Option lines.Line
 reading_meant None = None
 reading_meant (Some line) = Some (line_meant line)
 
--- that a function gives the line that a reading of words gives, and what it writes is data
+-- that a function gives the line that a reading of words gives, and that its call fits
 abbrev pub GivesLine : Result Line ℕ → Result lines.Line ℕ → Type 0
-GivesLine (Ok line) read = (read ≡ Ok (line_meant line)) × WritesData line
+GivesLine (Ok line) read = (read ≡ Ok (line_meant line)) × CallFits line
 GivesLine (Err e) read = read ≡ Err e

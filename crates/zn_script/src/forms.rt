@@ -2,7 +2,7 @@
 ghost use Rattle.std.specs.Prelude.{◌≤◌, ◌+◌, length, IfOk, IfSome};
 ghost use Rattle.zn_model.specs.Words.{no_more};
 ghost use Rattle.zn_model.specs.Grammar.{open_line, close_line, size_line, read_line, write_line, stat_line, list_line, path_change, rename_line, chmod_line, chown_line, line_with, line_of, reading_of};
-ghost use Rattle.zn_script.specs.Data.{WritesData};
+ghost use Rattle.zn_script.specs.Data.{CallFits};
 ghost use Rattle.zn_script.specs.Gives.{Gives};
 ghost use Rattle.zn_script.specs.Meant.{verb_meant, line_meant, reading_meant, change_meant, GivesLine};
 ghost use Rattle.zn_script.specs.Places.{left_at};
@@ -19,7 +19,7 @@ const LAST_NUMBER: u32 = 2047;
 fn no_more_at<'a>(line: &[u8], at: usize, read: Line<'a>) -> Result<Line<'a>, u32>
     requires place { at ≤ length line.now + 1 }
     requires short { length line.now ≤ 65536 }
-    requires data { WritesData read }
+    requires fits { CallFits read }
     ensures { GivesLine result (no_more (line_meant read.entry) (left_at line.now at)) }
 {
     if at > line.len() {
@@ -184,12 +184,12 @@ fn form(line: &[u8]) -> Result<Line<'_>, u32>
 }
 
 /// Reads a line: none where it is empty or a comment. It is refused with the column of the first word that
-/// does not fit.
+/// does not fit. Its handle's number is at most 2,047, and it reads or writes at most `MOST_BYTES`.
 #[tactic(auto, unfolding(zn_model::specs::Grammar::reading_of))]
 pub fn parse(line: &[u8]) -> Result<Option<Line<'_>>, u32>
     requires { length line.now ≤ 65536 }
     ensures gives { Gives reading_meant result (reading_of line.now) }
-    ensures data { IfOk result (λ read. IfSome read WritesData) }
+    ensures fits { IfOk result (λ read. IfSome read CallFits) }
 {
     if line.is_empty() || line[0] == b'#' {
         return Ok(None);

@@ -63,6 +63,7 @@ pub fn small_number_at(line: &[u8], at: usize, max: u32) -> Result<(u32, usize),
     requires short { length line.now ≤ 65536 }
     ensures gives { Gives (λ x. (x.0, left_at line.now x.1)) result (next (number_in max) (left_at line.now at)) }
     ensures place { IfOk result (λ x. x.1 ≤ length line.now + 1) }
+    ensures small { IfOk result (λ x. x.0 ≤ max) }
 {
     match number_at(line, at, max as u64) {
         Ok((value, at)) => Ok((value as u32, at)),
