@@ -6,3 +6,4 @@ pub mod Naming
 pub mod Layouts
 pub mod Fresh
 pub mod Mounted
+pub mod Refusing

@@ -10,6 +10,7 @@ use Rattle.zn_model.specs.Looks.{report_all}
 use Rattle.zn_model.specs.Mounting.{MountAnswer, mount_failed}
 use Rattle.zn_model.specs.Scratch.{bare_volume}
 
+-- after the report: the volume of this truth, or the failure that the report answered
 abbrev pub bare_reported : Outcome → Reply → Truth → MountAnswer
 bare_reported reported (Ok unit) t = record { reply = Ok (bare_volume t); world = reported.world }
 bare_reported reported (Err error) t = mount_failed error reported.world
@@ -25,6 +26,7 @@ bare_mount w = bare_reported (issue w (report_all w.truth)) (issue w (report_all
 abbrev pub zone_file : Geometry → ℕ → FileZones
 zone_file g z = record { first = z; zones = 1; room = room g.shape (kind_at g z); sequential = is_sequential (kind_at g z) }
 
+-- whether the file is sequential, for true, or isn't, for false
 abbrev pub is_kind : Bool → FileZones → Bool
 is_kind true file = file.sequential
 is_kind false file = not file.sequential

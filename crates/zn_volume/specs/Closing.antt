@@ -23,6 +23,7 @@ zone_closed live m =
     then held_closed m live.file
     else answered tt m
 
+-- the result is the reply of that, and what is then mounted is what it leaves
 pub record Closes (live : Open) (result : Result (Unit {0}) Refusal) (old new : Mounted) : Type 0 where
   pub reply : result ≡ (zone_closed live old).reply
   pub mounted : new ≡ (zone_closed live old).mounted

@@ -5,3 +5,4 @@ pub mod Closing
 pub mod Causes
 pub mod Mounts
 pub mod Paths
+pub mod Refusals

@@ -31,6 +31,7 @@ is_spoiling NothingDone = false
 is_spoiling IoError = false
 is_spoiling PowerLost = false
 
+-- the result is such a refusal
 abbrev pub spoils : {X : Type 0} → Result X Refusal → Bool
 spoils (Ok value) = false
 spoils (Err refusal) = is_spoiling refusal

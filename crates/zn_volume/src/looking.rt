@@ -1,14 +1,15 @@
 // Calls that look, and the changes that are never allowed.
-ghost use Rattle.std.specs.Prelude.{◌≡◌, ◌<◌, ◌≤◌, length, false, option_map, All, AllPairs};
+ghost use Rattle.std.specs.Prelude.{◌≡◌, ◌<◌, ◌≤◌, length, false, option_map, true, All, AllPairs};
 ghost use Rattle.zn_model.specs.ZoneFiles.{files_of, listing_of};
 ghost use Rattle.zn_model.specs.Table.{max_handles};
 ghost use Rattle.zn_model.specs.Looks.{stat_call, entries_call, file_stat, directory_stat, mode_of as shown_mode, change_refusal};
 ghost use Rattle.zn_model.specs.Access.{unwritable as without_write};
+ghost use Rattle.zn_volume.specs.Refusals.{IsRefusedBy, stat_refusal, entries_refusal};
 ghost use Rattle.zn_volume.specs.Means.{spoils};
 
 use crate::paths::entries_of_path;
 use crate::volume::Volume;
-use zn_device::Zoned;
+use zn_device::{Tells, Zoned};
 use zn_inode::room;
 use zn_model::{Refusal, Shown, Stat};
 
@@ -41,6 +42,7 @@ impl<D: Zoned + Drop> Volume<D> {
     #[tactic(auto, unfolding(zn_model::specs::Looks::stat_call))]
     pub fn stat(&self, path: &[u8]) -> Result<Stat, Refusal>
         ensures reply { result ≡ (stat_call self.now.mounted path.now).reply }
+        ensures refused { IsRefusedBy (stat_refusal self.now.mounted path.now) result }
         ensures told { spoils result ≡ false }
     {
         if !self.dev.powered() {
@@ -88,6 +90,7 @@ impl<D: Zoned + Drop> Volume<D> {
     #[tactic(auto, unfolding(zn_model::specs::Looks::entries_call))]
     pub fn entries(&self, path: &[u8]) -> Result<u32, Refusal>
         ensures reply { result ≡ (entries_call self.now.mounted path.now).reply }
+        ensures refused { IsRefusedBy (entries_refusal self.now.mounted path.now) result }
         ensures told { spoils result ≡ false }
     {
         if !self.dev.powered() {
@@ -117,11 +120,31 @@ impl<D: Zoned + Drop> Volume<D> {
         self.handles.live()
     }
 
+    /// How many handles were opened since the mount: the generation of the next one.
+    pub fn opened(&self) -> u64
+        ensures { result ≡ self.now.mounted.volume.handles.opened }
+    {
+        self.handles.opened()
+    }
+
     /// A change of names or attributes is always refused, as `NotAllowed`.
     pub fn change(&self) -> Refusal
         ensures { result ≡ change_refusal }
     {
         Refusal::NotAllowed
+    }
+}
+
+fn device_tells<D: Tells>(device: &D)
+    ensures { (D.world device.now).truth.told ≡ true }
+{}
+
+impl<D: Tells + Drop> Volume<D> {
+    /// Over a device that tells its bytes, a volume does.
+    pub fn tells(&self)
+        ensures { self.now.mounted.world.truth.told ≡ true }
+    {
+        device_tells(&self.dev)
     }
 }
 

@@ -237,6 +237,7 @@ impl<D: Zoned + Drop> Volume<D> {
         ensures unspoilt { IfOk result (λ v. v.spoilt ≡ false) }
         ensures counts { IfOk result (λ v. (v.faults ≡ D.fault_count dev) × (v.breaks ≡ D.break_count dev) × (v.takes_memory ≡ D.takes_memory dev)) }
         ensures failed { IfErr result (λ e. MountCause e.why (D.is_spoilt e.dev) (D.world dev) (D.world e.dev) (D.fault_count dev) (D.fault_count e.dev) (D.break_count dev) (D.break_count e.dev)) }
+        ensures memory { IfErr result (λ e. D.takes_memory e.dev ≡ D.takes_memory dev) }
     {
         let mut dev = dev;
         match take_parts(alloc, &mut dev) {

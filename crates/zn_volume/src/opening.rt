@@ -1,11 +1,12 @@
 // Opens and closes.
-ghost use Rattle.std.specs.Prelude.{◌≡◌, ◌≤◌, ◌<◌, ◌^◌, ◌&&◌, length, Some, true, false, IfSome, IfNone};
+ghost use Rattle.std.specs.Prelude.{◌≡◌, ◌≤◌, ◌<◌, ◌^◌, ◌&&◌, length, Some, true, false, IfErr, IfSome, IfNone};
 ghost use Rattle.zn_truth.specs.Truth.{is_reached as limit_reached};
 ghost use Rattle.zn_model.specs.ZoneFiles.{files_of, file_named};
 ghost use Rattle.zn_model.specs.Table.{Live, file_at, shown_at, live_at, max_handles, next_handle, with_live, wro};
 ghost use Rattle.zn_model.specs.OpenClose.{open_call, open_by, open_now, opened, check_open, begins_writing as does_begin_writing, is_limit as is_limit_of, close_call, close_by, close_now, held_open};
 ghost use Rattle.zn_volume.specs.Causes.{CallCause};
 ghost use Rattle.zn_volume.specs.Closing.{Closes, held_closed};
+ghost use Rattle.zn_volume.specs.Refusals.{is_failure, IsRefusedBy, open_refusal, close_refusal};
 ghost use Rattle.zn_volume.specs.Means.{spoils, is_spoiling, key_in};
 
 use crate::paths::file_of_path;
@@ -48,6 +49,7 @@ impl<D: Zoned + Drop> Volume<D> {
         requires opened { self.old.mounted.volume.handles.opened < 2 ^ 63 }
         ensures reply { self.new.spoilt ≡ false → result ≡ (open_call self.old.mounted (key_in result) path.now mode who).reply }
         ensures mounted { self.new.spoilt ≡ false → self.new.mounted ≡ (open_call self.old.mounted (key_in result) path.now mode who).mounted }
+        ensures refused { IsRefusedBy (open_refusal self.old.mounted path.now mode who) result }
         ensures cause { CallCause result self.old self.new }
     {
         if !self.dev.powered() {
@@ -76,6 +78,7 @@ impl<D: Zoned + Drop> Volume<D> {
         requires opened { self.old.mounted.volume.handles.opened < 2 ^ 63 }
         ensures reply { self.new.spoilt ≡ false → result ≡ (open_by (Some f) self.old.mounted (key_in result) mode who).reply }
         ensures mounted { self.new.spoilt ≡ false → self.new.mounted ≡ (open_by (Some f) self.old.mounted (key_in result) mode who).mounted }
+        ensures refused { IsRefusedBy (check_open self.old.mounted.world.truth.shape.max_open self.old.mounted.volume f mode who) result }
         ensures cause { CallCause result self.old self.new }
     {
         match self.check_open(f, mode, who) {
@@ -168,6 +171,7 @@ impl<D: Zoned + Drop> Volume<D> {
         requires room { length self.old.mounted.volume.handles.live < max_handles }
         ensures reply { self.new.spoilt ≡ false → result ≡ (open_now self.old.mounted (key_in result) f mode).reply }
         ensures mounted { self.new.spoilt ≡ false → self.new.mounted ≡ (open_now self.old.mounted (key_in result) f mode).mounted }
+        ensures failure { IfErr result (λ refusal. is_failure refusal ≡ true) }
         ensures cause { CallCause result self.old self.new }
     {
         let file = self.inodes.file(f);
@@ -206,6 +210,7 @@ impl<D: Zoned + Drop> Volume<D> {
         requires unspoilt { self.old.spoilt ≡ false }
         ensures reply { self.new.spoilt ≡ false → result ≡ (close_call self.old.mounted h).reply }
         ensures mounted { self.new.spoilt ≡ false → self.new.mounted ≡ (close_call self.old.mounted h).mounted }
+        ensures refused { IsRefusedBy (close_refusal self.old.mounted h) result }
         ensures cause { CallCause result self.old self.new }
     {
         if !self.dev.powered() {
@@ -222,6 +227,7 @@ impl<D: Zoned + Drop> Volume<D> {
     fn close_zone(&mut self, on: &Open) -> Result<(), Refusal>
         requires known { on.now.file < length (files_of self.old.mounted.volume.inodes.layout) }
         requires unspoilt { self.old.spoilt ≡ false }
+        ensures failure { IfErr result (λ refusal. is_failure refusal ≡ true) }
         ensures cause { CallCause result self.old self.new }
         ensures closed { self.new.spoilt ≡ false → Closes on.now result self.old.mounted self.new.mounted }
     {
@@ -243,6 +249,7 @@ impl<D: Zoned + Drop> Volume<D> {
         requires unspoilt { self.old.spoilt ≡ false }
         ensures reply { self.new.spoilt ≡ false → result ≡ (held_closed self.old.mounted f).reply }
         ensures mounted { self.new.spoilt ≡ false → self.new.mounted ≡ (held_closed self.old.mounted f).mounted }
+        ensures failure { IfErr result (λ refusal. is_failure refusal ≡ true) }
         ensures cause { CallCause result self.old self.new }
     {
         let zone = ZoneNo(self.inodes.file(f).first);

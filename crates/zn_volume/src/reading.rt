@@ -1,9 +1,10 @@
 // Reads and sizes.
-ghost use Rattle.std.specs.Prelude.{◌≡◌, ◌≤◌, ◌<◌, ◌-◌, length, drop, Some, true, false, IfOk, IsErr, IfSome, IfNone};
+ghost use Rattle.std.specs.Prelude.{◌≡◌, ◌≤◌, ◌<◌, ◌-◌, length, drop, Some, true, false, IfOk, IfErr, IsErr, IfSome, IfNone};
 ghost use Rattle.zn_model.specs.ZoneFiles.{files_of, capacity_of};
 ghost use Rattle.zn_model.specs.Table.{file_at, shown_at, Live};
 ghost use Rattle.zn_model.specs.Reading.{read_call, read_by, read_now, check_read, size_call};
 ghost use Rattle.zn_volume.specs.Causes.{CallCause};
+ghost use Rattle.zn_volume.specs.Refusals.{is_failure, IsRefusedBy, size_refusal, read_refusal};
 ghost use Rattle.zn_volume.specs.Means.{spoils, is_spoiling, as_read};
 
 use crate::volume::Volume;
@@ -21,6 +22,7 @@ impl<D: Zoned + Drop> Volume<D> {
     #[tactic(auto, unfolding(zn_model::specs::Reading::size_call))]
     pub fn size(&self, h: Handle) -> Result<u64, Refusal>
         ensures reply { result ≡ (size_call self.now.mounted h).reply }
+        ensures refused { IsRefusedBy (size_refusal self.now.mounted h) result }
         ensures told { spoils result ≡ false }
     {
         if !self.dev.powered() {
@@ -48,6 +50,7 @@ impl<D: Zoned + Drop> Volume<D> {
         ensures count { IfOk result (λ n. n ≤ length out.old) }
         ensures rest { IfOk result (λ n. drop n out.new ≡ drop n out.old) }
         ensures failed { IsErr result → out.new ≡ out.old }
+        ensures refused { IsRefusedBy (read_refusal self.old.mounted h offset) result }
         ensures cause { CallCause result self.old self.new }
     {
         if !self.dev.powered() {
@@ -90,6 +93,7 @@ impl<D: Zoned + Drop> Volume<D> {
         ensures count { IfOk result (λ n. n ≤ length out.old) }
         ensures rest { IfOk result (λ n. drop n out.new ≡ drop n out.old) }
         ensures failed { IsErr result → out.new ≡ out.old }
+        ensures refused { (live : Live) → live.file ≡ on.now.file → live.mode ≡ on.now.mode → IsRefusedBy (check_read self.old.mounted.volume live offset) result }
         ensures cause { CallCause result self.old self.new }
     {
         match self.check_read(on, offset) {
@@ -110,6 +114,7 @@ impl<D: Zoned + Drop> Volume<D> {
         ensures count { IfOk result (λ n. n ≤ length out.old) }
         ensures rest { IfOk result (λ n. drop n out.new ≡ drop n out.old) }
         ensures failed { IsErr result → out.new ≡ out.old }
+        ensures failure { IfErr result (λ refusal. is_failure refusal ≡ true) }
         ensures cause { CallCause result self.old self.new }
     {
         let file = self.inodes.file(f);

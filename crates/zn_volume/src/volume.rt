@@ -4,6 +4,7 @@ ghost use Rattle.zn_model.specs.ZoneFiles.{files_of};
 ghost use Rattle.zn_model.specs.Recovery.{refusal_of, after_failure};
 ghost use Rattle.zn_volume.specs.Causes.{RecoveryCause};
 ghost use Rattle.zn_volume.specs.Means.{is_spoiling};
+ghost use Rattle.zn_volume.specs.Refusals.{is_failure};
 ghost use Rattle.zn_volume.specs.Seen.{Seen};
 
 use std::marker::Model;
@@ -60,7 +61,8 @@ impl<D: Zoned + Drop> Model for Volume<D> {
 
 /// A failure of the device, as a call tells it.
 pub fn refusal(error: DevError) -> Refusal
-    ensures { result ≡ refusal_of error }
+    ensures value { result ≡ refusal_of error }
+    ensures failure { is_failure result ≡ true }
 {
     match error {
         DevError::ReadOnly
@@ -85,6 +87,7 @@ impl<D: Zoned + Drop> Volume<D> {
         ensures refusal { self.new.spoilt ≡ false → result ≡ (after_failure after_read error self.old.mounted f).refusal }
         ensures mounted { self.new.spoilt ≡ false → self.new.mounted ≡ (after_failure after_read error self.old.mounted f).mounted }
         ensures cause { RecoveryCause error result self.old self.new }
+        ensures failure { is_failure result ≡ true }
     {
         let refusal = refusal(error);
         if is_passed_on(error) {
@@ -115,6 +118,15 @@ impl<D: Zoned + Drop> Volume<D> {
         ensures { result ≡ self.now.breaks }
     {
         self.dev.breaks()
+    }
+
+    /// The device.
+    pub fn device(&self) -> &D
+        ensures world { D.world result.now ≡ self.now.mounted.world }
+        ensures faults { D.fault_count result.now ≡ self.now.faults }
+        ensures breaks { D.break_count result.now ≡ self.now.breaks }
+    {
+        &self.dev
     }
 
     /// Gives the device back as it is.

@@ -1,10 +1,11 @@
 // Writes.
-ghost use Rattle.std.specs.Prelude.{◌≡◌, ◌≤◌, ◌<◌, length, Some, false, IfSome, IfNone};
+ghost use Rattle.std.specs.Prelude.{◌≡◌, ◌≤◌, ◌<◌, length, Some, true, false, IfErr, IfSome, IfNone};
 ghost use Rattle.zn_model.specs.ZoneFiles.{files_of};
 ghost use Rattle.zn_model.specs.Table.{file_at, shown_at, Live};
 ghost use Rattle.zn_model.specs.Writing.{write_call, write_by, write_now, check_write};
 ghost use Rattle.zn_io.specs.Files.{IsWritable};
 ghost use Rattle.zn_volume.specs.Causes.{CallCause};
+ghost use Rattle.zn_volume.specs.Refusals.{is_failure, IsRefusedBy, refusal_in, write_refusal};
 ghost use Rattle.zn_volume.specs.Means.{spoils};
 
 use crate::volume::Volume;
@@ -29,6 +30,7 @@ impl<D: Zoned + Drop> Volume<D> {
         requires len { length bytes.now ≤ 1048576 }
         ensures reply { self.new.spoilt ≡ false → result ≡ (write_call self.old.mounted h offset bytes.now).reply }
         ensures mounted { self.new.spoilt ≡ false → self.new.mounted ≡ (write_call self.old.mounted h offset bytes.now).mounted }
+        ensures refused { IsRefusedBy (write_refusal self.old.mounted h offset (length bytes.now)) result }
         ensures cause { CallCause result self.old self.new }
     {
         if !self.dev.powered() {
@@ -82,6 +84,7 @@ impl<D: Zoned + Drop> Volume<D> {
         requires len { length bytes.now ≤ 1048576 }
         ensures reply { self.new.spoilt ≡ false → (live : Live) → live.file ≡ on.now.file → live.mode ≡ on.now.mode → result ≡ (write_by (Some live) self.old.mounted offset bytes.now).reply }
         ensures mounted { self.new.spoilt ≡ false → (live : Live) → live.file ≡ on.now.file → live.mode ≡ on.now.mode → self.new.mounted ≡ (write_by (Some live) self.old.mounted offset bytes.now).mounted }
+        ensures refused { (live : Live) → live.file ≡ on.now.file → live.mode ≡ on.now.mode → IsRefusedBy (refusal_in (check_write self.old.mounted.volume live offset (length bytes.now))) result }
         ensures cause { CallCause result self.old self.new }
     {
         match self.check_write(on, offset, bytes.len()) {
@@ -98,6 +101,7 @@ impl<D: Zoned + Drop> Volume<D> {
         requires unspoilt { self.old.spoilt ≡ false }
         ensures reply { self.new.spoilt ≡ false → result ≡ (write_now self.old.mounted f offset bytes.now).reply }
         ensures mounted { self.new.spoilt ≡ false → self.new.mounted ≡ (write_now self.old.mounted f offset bytes.now).mounted }
+        ensures failure { IfErr result (λ refusal. is_failure refusal ≡ true) }
         ensures cause { CallCause result self.old self.new }
     {
         let file = self.inodes.file(f);
