@@ -1,0 +1,9 @@
+pub mod ReplyLaws
+pub mod Numbers
+pub mod LineSteps
+pub mod Answering
+pub mod Listings
+pub mod Opens
+pub mod Closes
+pub mod Opening
+pub mod Carried

@@ -1,0 +1,25 @@
+use Rattle.std.proofs.Common.{sym, subst, List, Option}
+use Rattle.zn_model.specs.declared.handles.Handle.{Handle}
+use Rattle.zn_model.specs.Lines.{SizeOf}
+use Rattle.zn_script.specs.Meant.{line_meant}
+use Rattle.zn_script.specs.declared.Line.{Line}
+use Rattle.zn_session.specs.Steps.{Answers}
+use Rattle.zn_session.proofs.calls.answer.Goals as goal
+
+pub returns-in-Open-clause-answers : goal.returns-in-Open-clause-answers
+returns-in-Open-clause-answers g c = subst (λ (line : Line). Answers (line_meant line) c.open.result c.args.buffer.now.items c.args.volume.now c.open.new.volume c.args.numbers.now.items c.open.new.numbers.items) (sym c.in-Open.is) (c.open.ensures.answers _)
+
+pub returns-in-Close-clause-answers : goal.returns-in-Close-clause-answers
+returns-in-Close-clause-answers g c = subst (λ (line : Line). Answers (line_meant line) c.close.result c.args.buffer.now.items c.args.volume.now c.close.new.volume c.args.numbers.now.items c.close.new.numbers.items) (sym c.in-Close.is) (c.close.ensures _)
+
+pub returns-in-Size-clause-answers : goal.returns-in-Size-clause-answers
+returns-in-Size-clause-answers g c = subst (λ (line : Line). Answers (line_meant line) c.size.result c.args.buffer.now.items c.args.volume.now c.args.volume.now c.args.numbers.now.items c.args.numbers.now.items) (sym c.in-Size.is) (subst (λ (numbers : List (Option Handle)). Answers (SizeOf c.in-Size.number) c.size.result c.args.buffer.now.items c.args.volume.now c.args.volume.now numbers numbers) c.deref.ensures.value (c.size.ensures _))
+
+pub returns-in-Stat-clause-answers : goal.returns-in-Stat-clause-answers
+returns-in-Stat-clause-answers g c = subst (λ (line : Line). Answers (line_meant line) c.stat.result c.args.buffer.now.items c.args.volume.now c.args.volume.now c.args.numbers.now.items c.args.numbers.now.items) (sym c.in-Stat.is) (c.stat.ensures _ _ c.requires.numbered)
+
+pub returns-in-List-clause-answers : goal.returns-in-List-clause-answers
+returns-in-List-clause-answers g c = subst (λ (line : Line). Answers (line_meant line) c.list.result c.args.buffer.now.items c.args.volume.now c.args.volume.now c.args.numbers.now.items c.args.numbers.now.items) (sym c.in-List.is) (c.list.ensures _ _ c.requires.numbered)
+
+pub returns-in-Change-clause-answers : goal.returns-in-Change-clause-answers
+returns-in-Change-clause-answers g c = subst (λ (line : Line). Answers (line_meant line) c.change.result c.args.buffer.now.items c.args.volume.now c.args.volume.now c.args.numbers.now.items c.args.numbers.now.items) (sym c.in-Change.is) (c.change.ensures _ _ c.requires.numbered)

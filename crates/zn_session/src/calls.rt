@@ -1,0 +1,301 @@
+// The lines that are calls on a mounted volume.
+ghost use Rattle.std.specs.Prelude.{true, ◌≡◌, ◌≤◌, ◌<◌, ◌^◌, ◌⊎◌, ℕ, List, length, take, false, Option, Some, Ok, IfOk, IsSome, option_map};
+ghost use Rattle.zn_model.specs.Grammar.{last_number, most_bytes, data_of, root};
+ghost use Rattle.zn_model.specs.Reading.{read_call};
+ghost use Rattle.zn_model.specs.Lines.{bytes_of, OpenFile, CloseFile, SizeOf, ReadFrom, WriteTo, StatOf, ListOf, Changes};
+ghost use Rattle.zn_model.specs.ReplyTexts.{plain, number_text, read_text, list_text};
+ghost use Rattle.zn_model.specs.Session.{names_in};
+ghost use Rattle.zn_model.specs.ZoneFiles.{listing_of};
+ghost use Rattle.zn_script.specs.Data.{CallFits};
+ghost use Rattle.zn_script.specs.Meant.{line_meant, change_meant, runs_meant};
+ghost use Rattle.zn_volume.specs.Causes.{CallCause};
+ghost use Rattle.zn_volume.specs.Means.{as_read};
+ghost use Rattle.zn_session.specs.Seen.{IsNumbered, number_at};
+ghost use Rattle.zn_session.specs.Steps.{ends, Answers, IsReplyTo, is_busy_answer};
+
+use crate::replies::Reply;
+use zn_device::{Tells, Zoned};
+use zn_model::{Handle, Mode, Refusal, Who};
+use zn_script::{Change, Line, expand};
+use zn_volume::Volume;
+
+/// So many opens of one mount use up the generations of handles.
+const MOST_OPENS: u64 = 1 << 63;
+
+/// The handle of a number.
+fn handle_of(numbers: &[Option<Handle>], number: u32) -> Option<Handle>
+    requires { number < length numbers.now }
+    ensures { result ≡ number_at numbers.now number }
+{
+    numbers[number as usize]
+}
+
+fn done(answer: Result<(), Refusal>) -> Reply<'static>
+    ensures { (buffer : List ℕ) → IsReplyTo plain answer result buffer }
+{
+    match answer {
+        Ok(()) => Reply::Done,
+        Err(refusal) => Reply::Refused(refusal),
+    }
+}
+
+fn number(answer: Result<u64, Refusal>) -> Reply<'static>
+    ensures { (buffer : List ℕ) → IsReplyTo number_text answer result buffer }
+{
+    match answer {
+        Ok(number) => Reply::Number(number),
+        Err(refusal) => Reply::Refused(refusal),
+    }
+}
+
+/// A read that put so many bytes to the front of the buffer.
+fn bytes(answer: Result<u64, Refusal>) -> Reply<'static>
+    requires { IfOk answer (λ n. n ≤ most_bytes) }
+    ensures { (buffer : List ℕ) → most_bytes ≤ length buffer → IsReplyTo read_text (as_read answer buffer) result buffer }
+{
+    match answer {
+        Ok(count) => Reply::Bytes(count as usize),
+        Err(refusal) => Reply::Refused(refusal),
+    }
+}
+
+/// Opens the file of a path by a number that has no handle.
+pub fn open<D: Zoned + Drop>(
+    volume: &mut Volume<D>,
+    numbers: &mut Vec<Option<Handle>>,
+    number: u32,
+    path: &[u8],
+    mode: Mode,
+) -> Reply<'static>
+    requires number { number ≤ last_number }
+    requires unspoilt { volume.old.spoilt ≡ false }
+    requires numbered { IsNumbered volume.old.mounted numbers.old.items }
+    ensures answers { (buffer : List ℕ) → Answers (OpenFile number path.now mode root) result buffer volume.old volume.new numbers.old.items numbers.new.items }
+    ensures cause { ends result ≡ true → (volume.new.spoilt ≡ true) ⊎ (2 ^ 63 ≤ volume.old.mounted.volume.handles.opened) }
+{
+    if handle_of(numbers, number).is_some() {
+        return Reply::HandleInUse;
+    }
+    if volume.opened() >= MOST_OPENS {
+        return Reply::Starved;
+    }
+    match volume.open(path, mode, Who { uid: 0, gid: 0 }) {
+        Ok(h) => {
+            numbers[number as usize] = Some(h);
+            Reply::Done
+        }
+        Err(refusal) => Reply::Refused(refusal),
+    }
+}
+
+/// Whether a close was refused since the file is busy.
+fn is_busy(answer: &Result<(), Refusal>) -> bool
+    ensures { result ≡ is_busy_answer answer.now }
+{
+    matches!(answer, Err(Refusal::Busy))
+}
+
+/// Ends the handle of a number, which is free then, unless the file is busy.
+fn close<D: Zoned + Drop>(
+    volume: &mut Volume<D>,
+    numbers: &mut Vec<Option<Handle>>,
+    number: u32,
+) -> Reply<'static>
+    requires number { number ≤ last_number }
+    requires unspoilt { volume.old.spoilt ≡ false }
+    requires numbered { IsNumbered volume.old.mounted numbers.old.items }
+    ensures { (buffer : List ℕ) → Answers (CloseFile number) result buffer volume.old volume.new numbers.old.items numbers.new.items }
+{
+    let Some(h) = handle_of(numbers, number) else {
+        return Reply::Refused(Refusal::BadHandle);
+    };
+    let answer = volume.close(h);
+    if is_busy(&answer) {
+        return done(answer);
+    }
+    numbers[number as usize] = None;
+    done(answer)
+}
+
+fn size<D: Zoned + Drop>(
+    volume: &Volume<D>,
+    numbers: &[Option<Handle>],
+    number: u32,
+) -> Reply<'static>
+    requires number { number ≤ last_number }
+    requires unspoilt { volume.now.spoilt ≡ false }
+    requires numbered { IsNumbered volume.now.mounted numbers.now }
+    ensures { (buffer : List ℕ) → Answers (SizeOf number) result buffer volume.now volume.now numbers.now numbers.now }
+{
+    match handle_of(numbers, number) {
+        None => Reply::Refused(Refusal::BadHandle),
+        Some(h) => self::number(volume.size(h)),
+    }
+}
+
+/// Reads at most `len` bytes of the file of a handle into the front of some room.
+fn read_front<D: Tells + Drop>(
+    volume: &mut Volume<D>,
+    h: Handle,
+    offset: u64,
+    len: u32,
+    room: &mut [u8],
+) -> Result<u64, Refusal>
+    requires len { len ≤ most_bytes }
+    requires room { length room.old ≡ most_bytes }
+    requires unspoilt { volume.old.spoilt ≡ false }
+    ensures reply { volume.new.spoilt ≡ false → as_read result room.new ≡ (read_call volume.old.mounted h offset len).reply }
+    ensures mounted { volume.new.spoilt ≡ false → volume.new.mounted ≡ (read_call volume.old.mounted h offset len).mounted }
+    ensures count { IfOk result (λ n. n ≤ most_bytes) }
+    ensures room { length room.new ≡ most_bytes }
+    ensures cause { CallCause result volume.old volume.new }
+{
+    volume.tells();
+    volume.read(h, offset, &mut room[..len as usize])
+}
+
+/// The same, into the front of the buffer.
+fn read_into<D: Tells + Drop>(
+    volume: &mut Volume<D>,
+    h: Handle,
+    offset: u64,
+    len: u32,
+    buffer: &mut Vec<u8>,
+) -> Result<u64, Refusal>
+    requires len { len ≤ most_bytes }
+    requires room { length buffer.old.items ≡ most_bytes }
+    requires unspoilt { volume.old.spoilt ≡ false }
+    ensures reply { volume.new.spoilt ≡ false → as_read result buffer.new.items ≡ (read_call volume.old.mounted h offset len).reply }
+    ensures mounted { volume.new.spoilt ≡ false → volume.new.mounted ≡ (read_call volume.old.mounted h offset len).mounted }
+    ensures count { IfOk result (λ n. n ≤ most_bytes) }
+    ensures room { length buffer.new.items ≡ most_bytes }
+    ensures cause { CallCause result volume.old volume.new }
+{
+    read_front(volume, h, offset, len, buffer)
+}
+
+/// Reads at most `len` bytes into the front of the buffer.
+fn read<D: Tells + Drop>(
+    volume: &mut Volume<D>,
+    numbers: &[Option<Handle>],
+    number: u32,
+    offset: u64,
+    len: u32,
+    buffer: &mut Vec<u8>,
+) -> Reply<'static>
+    requires number { number ≤ last_number }
+    requires len { len ≤ most_bytes }
+    requires room { length buffer.old.items ≡ most_bytes }
+    requires unspoilt { volume.old.spoilt ≡ false }
+    requires numbered { IsNumbered volume.old.mounted numbers.now }
+    ensures answers { Answers (ReadFrom number offset len) result buffer.new.items volume.old volume.new numbers.now numbers.now }
+    ensures room { length buffer.new.items ≡ most_bytes }
+{
+    match handle_of(numbers, number) {
+        None => Reply::Refused(Refusal::BadHandle),
+        Some(h) => bytes(read_into(volume, h, offset, len, buffer)),
+    }
+}
+
+/// Puts the bytes that a word of data stands for to the front of the buffer, and answers how many they are.
+fn put_data(word: &[u8], buffer: &mut Vec<u8>) -> usize
+    requires data { IsSome (data_of word.now) }
+    requires room { length buffer.old.items ≡ most_bytes }
+    ensures bytes { take result buffer.new.items ≡ bytes_of (runs_meant word.now) }
+    ensures small { result ≤ most_bytes }
+    ensures room { length buffer.new.items ≡ most_bytes }
+{
+    expand(word, buffer)
+}
+
+/// Writes the bytes that a word of data stands for.
+fn write<D: Zoned + Drop>(
+    volume: &mut Volume<D>,
+    numbers: &[Option<Handle>],
+    number: u32,
+    offset: u64,
+    word: &[u8],
+    buffer: &mut Vec<u8>,
+) -> Reply<'static>
+    requires number { number ≤ last_number }
+    requires data { IsSome (data_of word.now) }
+    requires room { length buffer.old.items ≡ most_bytes }
+    requires unspoilt { volume.old.spoilt ≡ false }
+    requires numbered { IsNumbered volume.old.mounted numbers.now }
+    ensures answers { Answers (WriteTo number offset (runs_meant word.now)) result buffer.new.items volume.old volume.new numbers.now numbers.now }
+    ensures room { length buffer.new.items ≡ most_bytes }
+{
+    match handle_of(numbers, number) {
+        None => Reply::Refused(Refusal::BadHandle),
+        Some(h) => {
+            let len = put_data(word, buffer);
+            done(volume.write(h, offset, &buffer[..len]))
+        }
+    }
+}
+
+fn stat<'a, D: Zoned + Drop>(volume: &Volume<D>, path: &'a [u8]) -> Reply<'a>
+    requires unspoilt { volume.now.spoilt ≡ false }
+    ensures { (buffer : List ℕ) (numbers : List (Option Handle)) → IsNumbered volume.now.mounted numbers → Answers (StatOf path.now) result buffer volume.now volume.now numbers numbers }
+{
+    match volume.stat(path) {
+        Ok(stat) => Reply::Told(path, stat),
+        Err(refusal) => Reply::Refused(refusal),
+    }
+}
+
+/// The names in a directory, of which there are so many.
+fn listing<D: Zoned + Drop>(volume: &Volume<D>, path: &[u8], entries: u32) -> Reply<'static>
+    requires { option_map length (listing_of volume.now.mounted.volume.inodes.layout path.now) ≡ Some entries }
+    ensures { (buffer : List ℕ) → IsReplyTo (λ (n : ℕ). list_text (names_in (listing_of volume.now.mounted.volume.inodes.layout path.now))) (Ok entries) result buffer }
+{
+    if path == b"/".as_slice() {
+        let (cnv, seq) = volume.files();
+        Reply::Directories(cnv > 0, seq > 0)
+    } else {
+        Reply::Names(entries)
+    }
+}
+
+fn list<D: Zoned + Drop>(volume: &Volume<D>, path: &[u8]) -> Reply<'static>
+    requires unspoilt { volume.now.spoilt ≡ false }
+    ensures { (buffer : List ℕ) (numbers : List (Option Handle)) → IsNumbered volume.now.mounted numbers → Answers (ListOf path.now) result buffer volume.now volume.now numbers numbers }
+{
+    match volume.entries(path) {
+        Ok(entries) => listing(volume, path, entries),
+        Err(refusal) => Reply::Refused(refusal),
+    }
+}
+
+fn change<D: Zoned + Drop>(volume: &Volume<D>, change: Change) -> Reply<'static>
+    requires unspoilt { volume.now.spoilt ≡ false }
+    ensures { (buffer : List ℕ) (numbers : List (Option Handle)) → IsNumbered volume.now.mounted numbers → Answers (Changes (change_meant change)) result buffer volume.now volume.now numbers numbers }
+{
+    Reply::Refused(volume.change())
+}
+
+/// Does what a line asks for on a mounted volume.
+pub fn answer<'a, D: Tells + Drop>(
+    volume: &mut Volume<D>,
+    numbers: &mut Vec<Option<Handle>>,
+    buffer: &mut Vec<u8>,
+    line: &Line<'a>,
+) -> Reply<'a>
+    requires fits { CallFits line.now }
+    requires room { length buffer.old.items ≡ most_bytes }
+    requires unspoilt { volume.old.spoilt ≡ false }
+    requires numbered { IsNumbered volume.old.mounted numbers.old.items }
+    ensures answers { Answers (line_meant line.now) result buffer.new.items volume.old volume.new numbers.old.items numbers.new.items }
+    ensures room { length buffer.new.items ≡ most_bytes }
+{
+    match *line {
+        Line::Open(number, path, mode) => open(volume, numbers, number, path, mode),
+        Line::Close(number) => close(volume, numbers, number),
+        Line::Size(number) => size(volume, numbers, number),
+        Line::Read(number, offset, len) => read(volume, numbers, number, offset, len, buffer),
+        Line::Write(number, offset, word) => write(volume, numbers, number, offset, word, buffer),
+        Line::Stat(path) => stat(volume, path),
+        Line::List(path) => list(volume, path),
+        Line::Change(change) => self::change(volume, change),
+    }
+}
