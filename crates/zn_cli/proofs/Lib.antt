@@ -1,0 +1,3 @@
+pub mod KindLists
+pub mod Mounting
+pub mod Beginning
