@@ -1,0 +1,377 @@
+use std::alloc::{AllocError, Global};
+use std::process::Abort;
+use std::test::Fail;
+use zn_base::Source;
+use zn_base::memory::{MemSink, MemSource};
+use zn_cli::zonefs_main;
+use zn_run::Status;
+
+/// How many bytes a sink has room for.
+const ROOM: usize = 8192;
+
+/// A command line, a script, and how the run ends.
+#[derive(Clone, Copy)]
+struct Case {
+    words: &'static str,
+    script: &'static str,
+    status: Status,
+    written: &'static str,
+}
+
+/// A script that is carried out to its end.
+fn done(words: &'static str, script: &'static str, written: &'static str) -> Case {
+    Case {
+        words,
+        script,
+        status: Status::Done,
+        written,
+    }
+}
+
+fn words_of(alloc: Global, line: &str) -> Result<Vec<String>, AllocError> {
+    let mut words = Vec::new(alloc);
+    for word in line.split_ascii_whitespace() {
+        words.push(String::from_str(alloc, word)?)?;
+    }
+    Ok(words)
+}
+
+/// A source of these bytes. The reads with these numbers fail.
+fn source_of(alloc: Global, script: &[u8], fails: &[u64]) -> Result<MemSource, AllocError> {
+    Ok(MemSource::new(
+        Vec::from_slice(alloc, script)?,
+        Vec::from_slice(alloc, fails)?,
+    ))
+}
+
+fn ends_so<R: Abort + Copy>(
+    rt: R,
+    alloc: Global,
+    words: &str,
+    source: &mut MemSource,
+    status: Status,
+    written: &str,
+) -> Result<(), Fail> {
+    let list = words_of(alloc, words)?;
+    let mut sink = MemSink::new(alloc, ROOM, Vec::new(alloc))?;
+    let got = zonefs_main(alloc, &list, source, &mut sink);
+    assert_eq!(&rt; sink.bytes(), written.as_bytes(), "{words}: {written}");
+    assert_eq!(&rt; got, status, "{words}: {written}");
+    Ok(())
+}
+
+fn runs<R: Abort + Copy>(rt: R, alloc: Global, case: Case) -> Result<(), Fail> {
+    let mut source = source_of(alloc, case.script.as_bytes(), &[])?;
+    ends_so(
+        rt,
+        alloc,
+        case.words,
+        &mut source,
+        case.status,
+        case.written,
+    )
+}
+
+/// A write, a read of what it wrote, and the size after it.
+fn first_row() -> Case {
+    done(
+        "scratch 4 1 2",
+        "write 0 0 61*4096\nread 0 0 4096\nsize 0\n",
+        "ok\nok 4096 61*4096\nok 4096\n",
+    )
+}
+
+#[test]
+fn sequential_files_grow(rt: HostRuntime) -> Result<(), Fail> {
+    for case in [
+        first_row(),
+        done("scratch 4 1 2", "", ""),
+        done("scratch 4 1 2", "size 0", "ok 0\n"),
+        done(
+            "scratch 4 1 2",
+            "write 0 4096 61*4096\nsize 0\n",
+            "error bad-offset\nok 0\n",
+        ),
+        done(
+            "scratch 4 1 2",
+            "write 0 0 61*100\nwrite 0 0 61*0\nsize 0\n",
+            "error unaligned\nok\nok 0\n",
+        ),
+        done(
+            "scratch 4 1 2",
+            "write 0 0 61*8192\nwrite 0 8192 61*4096\nread 0 8192 4096\nread 0 8193 1\n",
+            "ok\nerror too-big\nok 0\nerror too-big\n",
+        ),
+        done(
+            "scratch 4 1 2",
+            "write 0 0 61*4095+62*1\nread 0 4094 2\n",
+            "ok\nok 2 61*1+62*1\n",
+        ),
+        done(
+            "scratch 4 1 2",
+            "write 0 0 61*4096\nwrite 0 0 62*4096\nwrite 0 4096 62*4096\nread 0 4000 200\n",
+            "ok\nerror bad-offset\nok\nok 200 61*96+62*104\n",
+        ),
+    ] {
+        runs(rt, rt.alloc(), case)?;
+    }
+    Ok(())
+}
+
+#[test]
+fn handles_and_names(rt: HostRuntime) -> Result<(), Fail> {
+    for case in [
+        done(
+            "scratch 4 1 2",
+            "open 0 seq/1 r\nopen 1 seq/1 r\nwrite 1 0 61*4096\nclose 2\nstat seq/00\n",
+            "error handle-in-use\nok\nerror bad-mode\nerror bad-handle\nerror no-such-file\n",
+        ),
+        done(
+            "scratch 4 1 2",
+            "chmod seq/0 777\ncreate a\nremove a\nrename a b\nchown a 1 2\n",
+            "error not-allowed\nerror not-allowed\nerror not-allowed\nerror not-allowed\nerror not-allowed\n",
+        ),
+        done(
+            "scratch 4 1 2",
+            "stat seq/0\nclose 0\nsize 0\n",
+            "ok file seq/0 zone 1 zones 1 size 0 blocks 16 mode 640 uid 0 gid 0 writers 1\n\
+             ok\nerror bad-handle\n",
+        ),
+        // A number that is closed opens another file.
+        done(
+            "scratch 4 1 2",
+            "open 1 seq/1 r\nclose 1\nopen 1 seq/2 w\nwrite 1 0 61*4096\nsize 1\nstat seq/1\nstat seq/2\n",
+            "ok\nok\nok\nok\nok 4096\n\
+             ok file seq/1 zone 2 zones 1 size 0 blocks 16 mode 640 uid 0 gid 0 writers 0\n\
+             ok file seq/2 zone 3 zones 1 size 4096 blocks 16 mode 640 uid 0 gid 0 writers 1\n",
+        ),
+        done(
+            "scratch 2 1 2",
+            "list /\nlist cnv\nstat /\n",
+            "ok 1\nseq\nerror no-such-file\nok dir / size 1\n",
+        ),
+        done(
+            "scratch 2 2 2",
+            "size 0\nlist /\n",
+            "error bad-handle\nok 1\ncnv\n",
+        ),
+        done("scratch 1 0 2", "list /\n", "ok 0\n"),
+    ] {
+        runs(rt, rt.alloc(), case)?;
+    }
+    Ok(())
+}
+
+#[test]
+fn conventional_files_keep_their_size(rt: HostRuntime) -> Result<(), Fail> {
+    for case in [
+        // Two handles on one file: what one writes the other reads.
+        done(
+            "scratch 6 4 2",
+            "open 1 cnv/0 rw\nopen 2 cnv/0 rw\nread 1 0 8192\n\
+             write 1 4096 61*4096\nread 2 4095 3\nwrite 2 0 62*4096\nread 1 4000 200\n\
+             write 1 0 63*8192\nread 2 0 8192\nwrite 2 4096 64*4096\nread 1 1 8191\nsize 1\nsize 2\n",
+            "ok\nok\nok 8192 00*8192\n\
+             ok\nok 3 00*1+61*2\nok\nok 200 62*96+61*104\n\
+             ok\nok 8192 63*8192\nok\nok 8191 63*4095+64*4096\nok 8192\nok 8192\n",
+        ),
+        // Nothing is written past the capacity.
+        done(
+            "scratch 6 4 2",
+            "open 1 cnv/2 rw\nwrite 1 4096 65*8192\nwrite 1 8192 65*4096\nwrite 1 8192 65*0\n\
+             write 1 100 65*4096\nread 1 8192 1\nread 1 8193 1\nread 1 8000 4096\nsize 1\n",
+            "ok\nerror too-big\nerror too-big\nok\n\
+             error unaligned\nok 0\nerror too-big\nok 192 00*192\nok 8192\n",
+        ),
+        // Three files, each with bytes of its own.
+        done(
+            "scratch 6 4 2",
+            "open 3 cnv/1 w\nopen 4 cnv/2 rw\nwrite 3 4096 66*4096\nread 3 0 1\nwrite 4 0 67*4096\n\
+             read 4 0 8192\nopen 5 cnv/1 r\nread 5 0 8192\nwrite 5 0 61*4096\nsize 3\nsize 4\n\
+             open 6 cnv/0 r\nread 6 0 8192\nopen 7 cnv/3 r\nstat cnv/1\n",
+            "ok\nok\nok\nerror bad-mode\nok\n\
+             ok 8192 67*4096+00*4096\nok\nok 8192 00*4096+66*4096\nerror bad-mode\nok 8192\nok 8192\n\
+             ok\nok 8192 00*8192\nerror no-such-file\n\
+             ok file cnv/1 zone 2 zones 1 size 8192 blocks 16 mode 640 uid 0 gid 0 writers 1\n",
+        ),
+    ] {
+        runs(rt, rt.alloc(), case)?;
+    }
+    Ok(())
+}
+
+#[test]
+fn other_command_lines_are_refused(rt: HostRuntime) -> Result<(), Fail> {
+    for words in [
+        "scratch 4 1 1",
+        "scratch 04 1 2",
+        "scratch 4 5 2",
+        "scratch 4 1",
+        "scratch 4 1 2 3",
+        "scratsch 4 1 2",
+        "scratch 32 1 2049",
+        "scratch 0 0 2",
+        "",
+    ] {
+        // A read would fail, and be counted.
+        let mut source = source_of(rt.alloc(), b"size 0\n", &[1])?;
+        ends_so(
+            rt,
+            rt.alloc(),
+            words,
+            &mut source,
+            Status::Usage,
+            "zonefs: bad command line\n",
+        )?;
+        assert_eq!(rt; source.faults(), 0, "{words}");
+    }
+    Ok(())
+}
+
+#[test]
+fn faults_end_runs(rt: HostRuntime) -> Result<(), Fail> {
+    let alloc = rt.alloc();
+    let mut source = source_of(alloc, b"size 0\n", &[1])?;
+    ends_so(
+        rt,
+        alloc,
+        "scratch 4 1 2",
+        &mut source,
+        Status::ReadFault,
+        "read-fault\n",
+    )?;
+    let words = words_of(alloc, "scratch 4 1 2")?;
+    let mut source = source_of(alloc, b"size 0\nsize 0\n", &[])?;
+    let mut sink = MemSink::new(alloc, ROOM, vec![in alloc; 1]?)?;
+    let got = zonefs_main(alloc, &words, &mut source, &mut sink);
+    assert_eq!(rt; got, Status::WriteFault);
+    assert_eq!(rt; sink.bytes().len(), 0);
+    Ok(())
+}
+
+#[test]
+fn other_lines_are_refused(rt: HostRuntime) -> Result<(), Fail> {
+    for line in [
+        "mount",
+        " size 0",
+        "size 0 ",
+        "size  0",
+        "size 0\r",
+        "SIZE 0",
+        "size",
+        "size 00",
+        "size 2048",
+        "open 1 seq/0",
+        "open 1 seq/0 wr",
+        "read 0 0",
+        "read 0 0 1048577",
+        "write 0 18446744073709551616 61*0",
+        "write 0 0 61",
+        "write 0 0 6A*1",
+        "write 0 0 61*1+",
+        "write 0 0 61*1048576+61*1",
+        "chmod seq/0 4294967296",
+        "list",
+    ] {
+        let script = format!(in rt.alloc(); "size 0\n\n# {line}\n{line}\nsize 0\n")?;
+        let mut source = source_of(rt.alloc(), script.as_bytes(), &[])?;
+        ends_so(
+            rt,
+            rt.alloc(),
+            "scratch 4 1 2",
+            &mut source,
+            Status::Script,
+            "ok 0\nnot-built 4\n",
+        )?;
+    }
+    // The greatest numbers.
+    runs(
+        rt,
+        rt.alloc(),
+        done(
+            "scratch 4 1 2",
+            "size 2047\nread 0 8192 1048576\nread 0 18446744073709551615 1\n\
+             write 0 18446744073709551615 61*0\nwrite 0 0 61*1048576\nchown a 4294967295 0\n",
+            "error bad-handle\nok 0\nerror too-big\nok\nerror too-big\nerror not-allowed\n",
+        ),
+    )
+}
+
+/// So many comments of this length, each with a newline behind it, and then more bytes.
+fn comments(alloc: Global, count: usize, len: usize, more: &[u8]) -> Result<Vec<u8>, AllocError> {
+    let mut line = vec![in alloc; b'#'; len]?;
+    line.push(b'\n')?;
+    let mut script = Vec::new(alloc);
+    for _ in 0..count {
+        script.extend_from_slice(&line)?;
+    }
+    script.extend_from_slice(more)?;
+    Ok(script)
+}
+
+#[test]
+fn long_scripts_are_refused(rt: HostRuntime) -> Result<(), Fail> {
+    for (count, len, status, written) in [
+        (1, 65_536, Status::Done, "ok 0\n"),
+        (1, 65_537, Status::Script, "line-too-long 1\n"),
+        (300, 65_536, Status::Script, "script-too-long 256\n"),
+    ] {
+        let script = comments(rt.alloc(), count, len, b"size 0\n")?;
+        let mut source = source_of(rt.alloc(), &script, &[])?;
+        ends_so(
+            rt,
+            rt.alloc(),
+            "scratch 4 1 2",
+            &mut source,
+            status,
+            written,
+        )?;
+    }
+    Ok(())
+}
+
+/// Number 0 is open already, so these are 1,024 handles, and one too many.
+#[test]
+fn handles_are_limited(rt: HostRuntime) -> Result<(), Fail> {
+    let alloc = rt.alloc();
+    let mut script = String::new(alloc);
+    let mut written = String::new(alloc);
+    for number in 1..1024 {
+        script.push_str(&format!(in alloc; "open {number} seq/0 r\n")?)?;
+        written.push_str("ok\n")?;
+    }
+    script.push_str("open 1024 seq/0 r\nclose 1\nopen 1024 seq/0 r\n")?;
+    written.push_str("error too-many-handles\nok\nok\n")?;
+    let mut source = source_of(alloc, script.as_bytes(), &[])?;
+    ends_so(
+        rt,
+        alloc,
+        "scratch 2 1 2",
+        &mut source,
+        Status::Done,
+        &written,
+    )
+}
+
+/// How the first row ends, and what it writes.
+fn first_run(alloc: Global) -> Result<(Status, MemSink), AllocError> {
+    let case = first_row();
+    let words = words_of(alloc, case.words)?;
+    let mut source = source_of(alloc, case.script.as_bytes(), &[])?;
+    let mut sink = MemSink::new(alloc, ROOM, Vec::new(alloc))?;
+    let status = zonefs_main(alloc, &words, &mut source, &mut sink);
+    Ok((status, sink))
+}
+
+/// Runs the first row, whose answer is its own or that memory is wanting, whichever allocation fails.
+#[test]
+fn an_allocation_may_fail(rt: HostRuntime) {
+    if let Ok((status, sink)) = first_run(rt.alloc()) {
+        let written = match status {
+            Status::Memory => "out-of-memory\n",
+            _ => first_row().written,
+        };
+        assert_eq!(rt; sink.bytes(), written.as_bytes());
+        assert!(rt; status == Status::Done || status == Status::Memory);
+    }
+}
