@@ -18,7 +18,7 @@ use Rattle.zn_truth.specs.Truth.{geometry, kind_at, room, Zone, Truth, zone_at, 
 use Rattle.zn_truth.specs.Orders.{Order, ReadAt, WriteAt, Manage, FlushAll, ReportFrom, refusal, effect, changing, placed, written, managed, done, done_unless}
 use Rattle.zn_truth.specs.Power.{write_during, during, lost}
 use Rattle.zn_truth.specs.Loss.{IsLossOf, IsLossOfOne, stages, stages_unless, IsLossInside}
-use Rattle.zn_truth.specs.Lists.{IsOrderFor, Fits, IsZoneToManage}
+use Rattle.zn_truth.specs.Obeying.{IsOrderFor, Fits, IsZoneToManage}
 use Rattle.zn_truth.specs.World.{World, Outcome, issue, issue_armed, unarmed, powered_off, geometry_of, meets, command_of, zones_of}
 use Rattle.zn_truth.specs.Inject.{Injected, lose_power, unless_bad}
 use Rattle.zn_truth.proofs.Losses.{IsFit, AreFit, fit_of_sound, fit_if_sound, sequential_flags, conventional_flags, fit_lost, lost_is_loss}

@@ -1,8 +1,8 @@
 -- What becomes of an order, case by case.
-use Rattle.std.proofs.Common.{◌≡◌, ℕ, ◌*◌, ◌/◌, ◌≤◌, min, Bool, true, false, List, [], length, take, Option, Some, None, Ok, Err, refl, sym, ap, ◌∙◌, subst, arith}
-use Rattle.std.proofs.lemmas.List.{get_or_past, length-map}
+use Rattle.std.proofs.Common.{◌≡◌, ℕ, Bool, true, false, List, [], length, Option, Some, None, Err, refl, sym, ap, ◌∙◌, subst, arith}
+use Rattle.std.proofs.lemmas.List.{length-map}
 use Rattle.std.proofs.lemmas.Grind.{common_steps}
-use Rattle.std.specs.Prelude.{IsErrOf, unwrap_or, ◌==◌, ◌&&◌, ◌≢◌, if◌then◌else◌}
+use Rattle.std.specs.Prelude.{IsErrOf, ◌==◌, ◌&&◌, if◌then◌else◌}
 use Rattle.std.proofs.Math.ListN.{get_or-map}
 use Rattle.zn_truth.specs.declared.DevError.{DevError}
 use Rattle.zn_truth.specs.declared.DevError.TheVariants.{ReadOnly, Offline, Unaligned, TooManyActive, TooManyOpen, BeyondWp, Fault, PowerLost, Broken, Memory}
@@ -14,10 +14,10 @@ use Rattle.zn_truth.specs.declared.ZoneOp.{ZoneOp}
 use Rattle.zn_truth.specs.declared.ZoneOp.TheVariants.{Open, Close, Reset, Finish}
 use Rattle.zn_truth.specs.declared.FaultSpec.{FaultSpec}
 use Rattle.zn_truth.specs.Truth.{Geometry, geometry, Zone, Truth, zone_at, no_zone, with_zone, is_sequential, is_good, kind_at}
-use Rattle.zn_truth.specs.Orders.{Order, ReadAt, WriteAt, Manage, FlushAll, ReportFrom, Reply, Done, done, done_unless, refusal, reading, changing, opening, writing, managing}
+use Rattle.zn_truth.specs.Orders.{Order, ReadAt, WriteAt, Manage, FlushAll, ReportFrom, Reply, done, done_unless, refusal, reading, changing, opening, writing, managing}
 use Rattle.zn_truth.specs.Power.{settled, clamped}
-use Rattle.zn_truth.specs.World.{World, Outcome, geometry_of, issue, calm, met, unmet, command_of, zones_of, faulted, outcome, struck, as_fault, broken_off, settled_by_flush}
-use Rattle.zn_truth.specs.Lists.{is_answered}
+use Rattle.zn_truth.specs.World.{World, Outcome, geometry_of, issue, calm, met, unmet, command_of, zones_of, faulted, outcome, struck, settled_by_flush}
+use Rattle.zn_truth.specs.Obeying.{is_answered}
 
 -- a device with power and nothing that waits does the order
 pub calm_done : (t : Truth) (order : Order) → issue (calm t) order ≡ outcome (done t order) [] None
@@ -42,10 +42,6 @@ fails w order powered pending fault on is_fault =
     ap (λ b. issue (record { truth = w.truth; powered = b; pending = pending; armed = None }) order) on
     ∙ ap (struck w.truth pending (unmet (command_of order) (zones_of order) pending) None order) (sym is_fault)
 
--- a calm device does an order that is not refused, and keeps calm
-pub calm_outcome : (w : World) (order : Order) → w ≡ calm w.truth → issue w order ≡ outcome (done w.truth order) [] None
-calm_outcome w order is_calm = ap (λ v. issue v order) is_calm ∙ calm_done w.truth order
-
 -- the kind that the geometry tells
 pub kind-in_geometry : (t : Truth) (z : ℕ) → kind_at (geometry t) z ≡ (zone_at t z).kind
 kind-in_geometry t z = get_or-map (λ zone. zone.kind) t.zones z no_zone
@@ -69,18 +65,6 @@ same_kind t u z same = sym (kind-in_geometry u z) ∙ ap (λ (g : Geometry). kin
 pub same_count : (t u : Truth) → geometry u ≡ geometry t → length u.zones ≡ length t.zones
 same_count t u same = sym (zones-in_geometry u) ∙ ap (λ (g : Geometry). length g.kinds) same ∙ zones-in_geometry t
 
--- a write that a fault meets is one of its first blocks, if it keeps some
-pub part_written : (w : World) (z at keep : ℕ) (bytes part : List ℕ) (fault : FaultSpec) → w ≡ calm w.truth → keep ≡ min (unwrap_or fault.keep 0) (length bytes / 4096) → keep ≢ 0 → part ≡ take (4096 * keep) bytes
-    → faulted w.truth (WriteAt z at bytes) fault ≡ broken_off (record { reply = (issue w (WriteAt z at part)).reply; truth = (issue w (WriteAt z at part)).world.truth })
-unfolding faulted
-part_written w z at keep bytes part fault is_calm is_keep some is_part = grind (arith, common_steps, calm_outcome)
-
--- a write that a fault meets is nothing, if it keeps nothing
-pub none_written : (t : Truth) (z at : ℕ) (bytes : List ℕ) (fault : FaultSpec) → min (unwrap_or fault.keep 0) (length bytes / 4096) ≡ 0
-    → faulted t (WriteAt z at bytes) fault ≡ record { reply = Err Fault; truth = t }
-unfolding faulted
-none_written t z at bytes fault none = grind (arith, common_steps)
-
 pub not_settled : (t : Truth) (z keep : ℕ) → (is_sequential (zone_at t z).kind && is_good (zone_at t z).cond) ≡ false → settled_by_flush t z keep ≡ t
 unfolding settled_by_flush
 not_settled t z keep h = grind (arith, common_steps)
@@ -89,24 +73,6 @@ pub is_settled : (t : Truth) (z keep : ℕ) → (is_sequential (zone_at t z).kin
     → settled_by_flush t z keep ≡ with_zone t z (settled (zone_at t z) (clamped (zone_at t z) keep) (clamped (zone_at t z) keep) None)
 unfolding settled_by_flush
 is_settled t z keep h = grind (arith, common_steps)
-
--- past the last zone there is none
-pub past_zones : (w : World) (z : ℕ) → length (geometry_of w).kinds ≤ z → zone_at w.truth z ≡ no_zone
-unfolding geometry_of
-past_zones w z h = get_or_past w.truth.zones z no_zone (rw (length-map w.truth.zones (λ (zone : Zone). zone.kind)) at h)
-
-pub as_fault-ok : (r : Reply) → Ok tt ≡ r → as_fault r ≡ Err Fault
-as_fault-ok r h = sym (ap as_fault h)
-
-pub as_fault-err : (r : Reply) (e : DevError) → Err e ≡ r → as_fault r ≡ Err e
-as_fault-err r e h = sym (ap as_fault h)
-
-pub ruleset Faults = (as_fault-ok, as_fault-err)
-
-pub part_reply : (w : World) (z at keep : ℕ) (bytes part : List ℕ) (fault : FaultSpec) (r : Reply) → w ≡ calm w.truth → keep ≡ min (unwrap_or fault.keep 0) (length bytes / 4096) → keep ≢ 0 → part ≡ take (4096 * keep) bytes
-    → r ≡ (issue w (WriteAt z at part)).reply → as_fault r ≡ (faulted w.truth (WriteAt z at bytes) fault).reply
-part_reply w z at keep bytes part fault r is_calm is_keep some is_part is_reply =
-    ap as_fault is_reply ∙ sym (ap (λ (d : Done). d.reply) (part_written w z at keep bytes part fault is_calm is_keep some is_part))
 
 pub calm_world : (t u : Truth) (order : Order) → u ≡ (done t order).truth → calm u ≡ (issue (calm t) order).world
 calm_world t u order h = ap calm h ∙ sym (ap (λ (o : Outcome). o.world) (calm_done t order))

@@ -9,3 +9,6 @@ pub mod LossesInside
 pub mod CutWrites
 pub mod LossReplies
 pub mod ArmedLosses
+pub mod Telling
+pub mod Hushed
+pub mod Failures

@@ -8,8 +8,9 @@ use Rattle.zn_truth.specs.declared.FaultSpec.{FaultSpec}
 use Rattle.zn_truth.specs.declared.Armed.{Armed}
 use Rattle.zn_truth.specs.Truth.{Truth}
 use Rattle.zn_truth.specs.Orders.{Order, ReadAt, WriteAt, Manage, FlushAll, ReportFrom, Reply, done, done_unless, refusal}
-use Rattle.zn_truth.specs.World.{World, Outcome, issue, issue_armed, unarmed, struck, faulted, command_of, zones_of, meets, powered_off, geometry_of}
-use Rattle.zn_truth.specs.Lists.{first_failure, issue_all, each_zone, Obeys, ObeysAll, IsAnswered}
+use Rattle.zn_truth.specs.World.{World, Outcome, issue, issue_armed, unarmed, struck, faulted, command_of, zones_of, meets, powered_off}
+use Rattle.zn_truth.specs.OrderLists.{first_failure, issue_all, each_zone}
+use Rattle.zn_truth.specs.Obeying.{Obeys, ObeysAll, IsAnswered}
 use Rattle.zn_truth.specs.OrderLaws.{is_look}
 
 -- ---- lists
@@ -129,15 +130,6 @@ each_one order i = each_first order i (i + 1) (omega arith) ∙ ap (λ l. order 
 pub each_more : (order : ℕ → Order) (from to : ℕ) → from ≤ to → each_zone order from (to + 1) ≡ each_zone order from to ++ order to ∷ []
 each_more order from to h = each_in_two order from to (to + 1) h (omega arith) ∙ ap (λ l. each_zone order from to ++ l) (each_one order to)
 
--- what holds of each order of a range
-pub each_all : (p : Order → Bool) (order : ℕ → Order) (from to : ℕ) → ((i : ℕ) → p (order i) ≡ true) → IsTrue (list_all p (each_zone order from to))
-unfolding each_zone
-each_all p order from to h = all_of (to - from) from
-  where
-    all_of : (n k : ℕ) → IsTrue (list_all p (map order (range_with_len k n)))
-    all_of zero k = refl
-    all_of (suc n) k = rw (h k) (all_of n (k + 1))
-
 -- ---- obeying one order after another
 
 pub obeys_none : (w : World) → ObeysAll [] (Ok tt) w w
@@ -193,50 +185,6 @@ pub obeys_stopped : (order : ℕ → Order) (from i to : ℕ) (error : DevError)
 obeys_stopped order from i to error old middle new le lt h k =
     rw (each_in_two order from (i + 1) to (omega arith) (omega arith))
     (obeys_failure (each_zone order from (i + 1)) (each_zone order (i + 1) to) error old new (obeys_one_more order from i (Err error) old middle new le h k))
-
--- no order is left in an empty range
-pub obeys_each_none : (order : ℕ → Order) (from to : ℕ) (w : World) → to ≤ from → ObeysAll (each_zone order from to) (Ok tt) w w
-obeys_each_none order from to w h = rw (each_none order from to h) (obeys_none w)
-
--- ---- a loop over what is left of a range
-
--- after an order that is done, what is left
-pub rest_ok : (w v : World) (order : ℕ → Order) (given : Order) (i to : ℕ) → i < to → given ≡ order i → Ok tt ≡ (issue w given).reply → v ≡ (issue w given).world
-    → issue_all w (each_zone order i to) ≡ issue_all v (each_zone order (i + 1) to)
-rest_ok w v order given i to h is ok after = rw (each_first order i to h, ← is, ← ok, after) refl
-
--- an order that fails is the last
-pub rest_err : (w : World) (order : ℕ → Order) (given : Order) (i to : ℕ) (error : DevError) → i < to → given ≡ order i → Err error ≡ (issue w given).reply
-    → issue_all w (each_zone order i to) ≡ issue w given
-rest_err w order given i to error h is err = rw (each_first order i to h, ← is, ← err) refl
-
-pub rest_err_reply : (w : World) (order : ℕ → Order) (given : Order) (i to : ℕ) (error : DevError) → i < to → given ≡ order i → Err error ≡ (issue w given).reply
-    → (issue_all w (each_zone order i to)).reply ≡ Err error
-rest_err_reply w order given i to error h is err = rw (rest_err w order given i to error h is err) (sym err)
-
--- when nothing is left, all is done
-pub all_done : (w v : World) (order : ℕ → Order) (orders : List Order) (i to : ℕ) → to ≤ i → issue_all v (each_zone order i to) ≡ issue_all w orders
-    → geometry_of v ≡ geometry_of w → ObeysAll orders (Ok tt) w v
-all_done w v order orders i to h rest geometry =
-    let e : issue_all w orders ≡ record { reply = Ok tt; world = v } = sym rest ∙ ap (issue_all v) (each_none order i to h) in
-    record { reply = λ _. sym (ap (λ (o : Outcome). o.reply) e); world = λ _. sym (ap (λ (o : Outcome). o.world) e); geometry = geometry }
-
--- the first that fails ends all
-pub all_stopped : (w v u : World) (order : ℕ → Order) (orders : List Order) (i to : ℕ) (error : DevError) → i < to → issue_all v (each_zone order i to) ≡ issue_all w orders
-    → geometry_of v ≡ geometry_of w → Obeys (order i) (Err error) v u → ObeysAll orders (Err error) w u
-all_stopped w v u order orders i to error h rest geometry step = record {
-  reply = λ yes. step.reply yes ∙ sym (ap (λ (o : Outcome). o.reply) (ends yes));
-  world = λ yes. step.world yes ∙ sym (ap (λ (o : Outcome). o.world) (ends yes));
-  geometry = step.geometry ∙ geometry;
-}
-  where
-    ends : IsAnswered (Err error) → issue_all w orders ≡ issue v (order i)
-    ends answered = sym rest ∙ rest_err v order (order i) i to error h refl (step.reply answered)
-
--- reads or reports of a range, which are all done, leave the truth
-pub each_look_leaves : (w : World) (order : ℕ → Order) (from to : ℕ) → ((i : ℕ) → is_look (order i) ≡ true) → (issue_all w (each_zone order from to)).reply ≡ Ok tt
-    → (issue_all w (each_zone order from to)).world.truth ≡ w.truth
-each_look_leaves w order from to look ok = looks_leave w (each_zone order from to) (each_all is_look order from to look) ok
 
 -- ---- without power
 

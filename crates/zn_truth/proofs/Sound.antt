@@ -5,7 +5,7 @@ use Rattle.std.proofs.lemmas.List.{length-map, get_or-map, length-set, get_or-se
 use Rattle.std.proofs.lemmas.List.Sums.{sum_by-set, sum_by-cons}
 use Rattle.std.proofs.Math.Seq.{map-set_same}
 use Rattle.zn_truth.specs.World.{World, geometry_of, calm}
-use Rattle.zn_truth.specs.Lists.{IsWhole, Fits, IsZoneToManage, IsOrderFor, Obeys}
+use Rattle.zn_truth.specs.Obeying.{IsWhole, Fits, IsOrderFor, Obeys}
 use Rattle.zn_truth.proofs.Issuing.{kind-in_geometry, zones-in_geometry, read-truth, report-truth, calm_reply, calm_world}
 use Rattle.std.proofs.lemmas.Grind.{common_steps}
 use Rattle.std.proofs.lemmas.Bool.Decides.{nat_tests}
@@ -212,10 +212,6 @@ done_sound t (ReportFrom first n) sound fits = subst IsSound (sym (report-truth 
 pub write_keeps : (w : World) (z at : ℕ) (bytes : List ℕ) → IsSound w.truth → IsWhole bytes → Fits (geometry_of w) z at (length bytes / 4096) → IsSound (done w.truth (WriteAt z at bytes)).truth
 unfolding geometry_of
 write_keeps w z at bytes sound whole fits = done_sound w.truth (WriteAt z at bytes) sound (whole, fits)
-
-pub manage_keeps : (w : World) (z : ℕ) (op : ZoneOp) → IsSound w.truth → IsZoneToManage (geometry_of w) z → IsSound (done w.truth (Manage z op)).truth
-unfolding geometry_of
-manage_keeps w z op sound zone = done_sound w.truth (Manage z op) sound zone
 
 -- a calm device that does what it is told owes no more
 pub calm_obeys : (t u : Truth) (r : Reply) (order : Order) → r ≡ (done t order).reply → u ≡ (done t order).truth → Obeys order r (calm t) (calm u)

@@ -76,7 +76,7 @@ or_false : (a b : Bool) → (a || b) ≡ false → (a ≡ false) × (b ≡ false
 or_false false b h = (refl, h)
 or_false true b h = absurd (true≢false h)
 
-turn_keeps : (P : World → Type 0) (w : World) (z : ℕ) (to : Cond) → P w → (z < length w.truth.zones → severity (zone_at w.truth z).cond < severity to → P (record w { truth = turned w.truth z to })) → P (turn w z to).world
+pub turn_keeps : (P : World → Type 0) (w : World) (z : ℕ) (to : Cond) → P w → (z < length w.truth.zones → severity (zone_at w.truth z).cond < severity to → P (record w { truth = turned w.truth z to })) → P (turn w z to).world
 unfolding turn
 turn_keeps P w z to old then =
     if_keeps (λ (i : Injected). P i.world) (not w.powered) (record { reply = Err PowerLost; world = w }) (unless_bad (not (is_zone w.truth z) || nat_le (severity to) (severity (zone_at w.truth z).cond)) w (record w { truth = turned w.truth z to })) old
@@ -93,7 +93,7 @@ turn-geometry w z to = turn_keeps (λ v. geometry_of v ≡ geometry_of w) w z to
 
 -- ---- losses of power
 
-lose_power_keeps : (P : World → Type 0) (w : World) (loss : LossSpec) → P w → P (record w { truth = lost w.truth loss; powered = false }) → P (lose_power w loss).world
+pub lose_power_keeps : (P : World → Type 0) (w : World) (loss : LossSpec) → P w → P (record w { truth = lost w.truth loss; powered = false }) → P (lose_power w loss).world
 unfolding lose_power
 lose_power_keeps P w loss old new =
     if_keeps (λ (i : Injected). P i.world) (not w.powered) (record { reply = Err PowerLost; world = w }) (unless_bad (are_bad_cuts w.truth loss.cuts || list_any (is_outside w.truth) loss.cuts) w (record w { truth = lost w.truth loss; powered = false })) old

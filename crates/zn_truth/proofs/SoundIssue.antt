@@ -15,7 +15,8 @@ use Rattle.zn_truth.specs.Truth.{Geometry, geometry, room, Zone, Truth, zone_at,
 use Rattle.zn_truth.specs.Orders.{Order, ReadAt, WriteAt, Manage, FlushAll, ReportFrom, Reply, Done, done}
 use Rattle.zn_truth.specs.Power.{settled, clamped, cut_of, stored, lost, cut_write, write_during, during}
 use Rattle.zn_truth.specs.World.{World, Outcome, geometry_of, met, meets, command_of, zones_of, settled_by_flush, faulted, struck, issue_armed, issue}
-use Rattle.zn_truth.specs.Lists.{IsOrderFor, first_failure, issue_all}
+use Rattle.zn_truth.specs.OrderLists.{first_failure, issue_all}
+use Rattle.zn_truth.specs.Obeying.{IsOrderFor}
 use Rattle.zn_truth.proofs.Issuing.{kind-in_geometry, zones-in_geometry, same_kind, same_count, is_settled, not_settled}
 use Rattle.zn_truth.proofs.Sound.{with_zone_sound, write_sound, done_sound, with_zone-geometry, done-geometry}
 use Rattle.zn_truth.proofs.SoundLoss.{clamped-least, clamped-most, settled_sound, settled_active, lost_sound, lost-geometry}
@@ -183,7 +184,7 @@ faulted-geometry t (ReportFrom first n) fault = refl
 -- ---- an order to a device with power that may go and faults that wait
 
 -- what holds of a truth and of each truth that an order may leave, holds of what becomes of it
-issue_keeps : (P : Truth → Type 0) (w : World) (order : Order) → P w.truth → P (done w.truth order).truth → ((fault : FaultSpec) → P (faulted w.truth order fault).truth)
+pub issue_keeps : (P : Truth → Type 0) (w : World) (order : Order) → P w.truth → P (done w.truth order).truth → ((fault : FaultSpec) → P (faulted w.truth order fault).truth)
     → ((carried_out : Bool) (loss : LossSpec) → P (lost (during w.truth order carried_out loss) loss)) → P (issue w order).world.truth
 unfolding issue
 issue_keeps P w order rest is_done is_faulted is_lost = if_keeps (λ (o : Outcome). P o.world.truth) w.powered _ _ (by_armed w.armed) rest
@@ -209,7 +210,7 @@ issue-geometry w order = issue_keeps (λ t. geometry t ≡ geometry w.truth) w o
 
 -- ---- orders one after another
 
-first_failure_keeps : (P : World → Type 0) (reply : Reply) (first second : Outcome) → P first.world → P second.world → P (first_failure reply first second).world
+pub first_failure_keeps : (P : World → Type 0) (reply : Reply) (first second : Outcome) → P first.world → P second.world → P (first_failure reply first second).world
 first_failure_keeps P (Ok unit) first second one two = two
 first_failure_keeps P (Err error) first second one two = one
 

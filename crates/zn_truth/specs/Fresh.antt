@@ -1,5 +1,6 @@
 -- A new device. (own)
 use Rattle.std.specs.Prelude.{◌*◌, true, false, List, [], map, replicate}
+use Rattle.zn_truth.specs.declared.limits.TheConstants.{BLOCK_SIZE}
 use Rattle.zn_truth.specs.declared.Cond.TheVariants.{Good}
 use Rattle.zn_truth.specs.declared.Kind.{Kind}
 use Rattle.zn_truth.specs.declared.Kind.TheVariants.{Conventional, Sequential}
@@ -12,7 +13,7 @@ fresh_zone shape Conventional = record {
   kind = Conventional;
   cond = Good;
   held = shape.zone_blocks;
-  bytes = replicate (4096 * shape.zone_blocks) 0;
+  bytes = replicate (BLOCK_SIZE * shape.zone_blocks) 0;
   durable = shape.zone_blocks;
   unflushed = replicate shape.zone_blocks false;
   explicit = false;

@@ -1,6 +1,7 @@
 -- Scripted faults, turns of condition, and losses and return of power: what refuses each, and what it does. (own)
 use Rattle.std.specs.Prelude.{ℕ, Bool, true, false, ◌&&◌, ◌||◌, not, ◌==◌, nat_lt, nat_le, List, [], ◌∷◌, ◌++◌, length, if◌then◌else◌, Some, is_some, Result, Ok, Err}
 use Rattle.std.specs.List.{list_any}
+use Rattle.zn_truth.specs.declared.limits.TheConstants.{MAX_FAULTS}
 use Rattle.zn_truth.specs.declared.Cond.{Cond}
 use Rattle.zn_truth.specs.declared.Cond.TheVariants.{Good, ReadOnly, Offline}
 use Rattle.zn_truth.specs.declared.ZoneNo.{ZoneNo}
@@ -12,7 +13,6 @@ use Rattle.zn_truth.specs.declared.Armed.{Armed}
 use Rattle.zn_truth.specs.declared.InjectError.{InjectError}
 use Rattle.zn_truth.specs.declared.InjectError.TheVariants.{BadFault, TooManyFaults, PowerLost}
 use Rattle.zn_truth.specs.Truth.{Truth, zone_at, is_sequential}
-use Rattle.zn_truth.specs.Limits.{max_faults}
 use Rattle.zn_truth.specs.Loss.{turned}
 use Rattle.zn_truth.specs.Power.{lost}
 use Rattle.zn_truth.specs.World.{World}
@@ -101,7 +101,7 @@ is_bad_fault t fault = is_misplaced t fault.zone.0 fault.command || (is_some fau
 unfoldable pub inject : World → FaultSpec → Injected
 inject w fault =
     if is_bad_fault w.truth fault then record { reply = Err BadFault; world = w }
-    else if nat_le max_faults (length w.pending) then record { reply = Err TooManyFaults; world = w }
+    else if nat_le MAX_FAULTS (length w.pending) then record { reply = Err TooManyFaults; world = w }
     else record { reply = Ok tt; world = record w { pending = w.pending ++ fault ∷ [] } }
 
 -- ---- turns of condition

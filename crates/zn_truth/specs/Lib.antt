@@ -5,10 +5,13 @@ pub mod Loss
 pub mod World
 pub mod Power
 pub mod Inject
-pub mod Lists
+pub mod OrderLists
+pub mod Obeying
 pub mod Laws
 pub mod SoundLaws
 pub mod OrderLaws
 pub mod Cases
 pub mod LossLaws
 pub mod Fresh
+pub mod Hush
+pub mod FailureLaws

@@ -1,5 +1,6 @@
 -- What a loss of power may leave of a truth, at rest or while a command is carried out. (own)
 use Rattle.std.specs.Prelude.{◌≡◌, ◌⊎◌, ℕ, ◌*◌, ◌<◌, ◌≤◌, Bool, false, List, [], ◌∷◌, length, take, drop, Option, Some, None, slice_index_or, if◌then◌else◌}
+use Rattle.zn_truth.specs.declared.limits.TheConstants.{BLOCK_SIZE}
 use Rattle.zn_truth.specs.declared.Kind.{Kind}
 use Rattle.zn_truth.specs.declared.Kind.TheVariants.{Conventional, Sequential}
 use Rattle.zn_truth.specs.declared.Cond.{Cond}
@@ -13,12 +14,12 @@ use Rattle.zn_truth.specs.Orders.{Order, ReadAt, WriteAt, Manage, FlushAll, Repo
 pub record KeepsDurable (old new : Zone) : Type 0 where
   pub no_less : old.durable ≤ new.held
   pub no_more : new.held ≤ old.held
-  pub front : take (4096 * old.durable) new.bytes ≡ take (4096 * old.durable) old.bytes
+  pub front : take (BLOCK_SIZE * old.durable) new.bytes ≡ take (BLOCK_SIZE * old.durable) old.bytes
 
 -- A conventional zone keeps its length and each block that isn't unflushed.
 pub record KeepsFlushed (old new : Zone) : Type 0 where
   pub held : new.held ≡ old.held
-  pub blocks : (k : ℕ) → k < old.held → slice_index_or old.unflushed k false ≡ false → take 4096 (drop (4096 * k) new.bytes) ≡ take 4096 (drop (4096 * k) old.bytes)
+  pub blocks : (k : ℕ) → k < old.held → slice_index_or old.unflushed k false ≡ false → take BLOCK_SIZE (drop (BLOCK_SIZE * k) new.bytes) ≡ take BLOCK_SIZE (drop (BLOCK_SIZE * k) old.bytes)
 
 -- by its kind, a zone keeps each flushed block, or its durable ones
 abbrev pub Keeps : Kind → Zone → Zone → Type 0
@@ -31,7 +32,7 @@ pub record IsZoneLoss (told : Bool) (old new : Zone) : Type 0 where
   pub kind : new.kind ≡ old.kind
   pub cond : new.cond ≡ old.cond
   pub keeps : Keeps old.kind old new
-  pub whole : length new.bytes ≡ (if told then 4096 * new.held else 0)
+  pub whole : length new.bytes ≡ (if told then BLOCK_SIZE * new.held else 0)
   pub durable : new.durable ≡ new.held
   pub flushed : new.unflushed ≡ cleared old.unflushed
   pub closed : new.explicit ≡ false
@@ -81,7 +82,3 @@ turned_by Offline zone = record zone { held = 0; bytes = []; durable = 0; unflus
 -- The zone turns to this condition: its bytes are durable and it is closed, or, offline, it holds none.
 unfoldable pub turned : Truth → ℕ → Cond → Truth
 turned t z to = with_zone t z (turned_by to (zone_at t z))
-
--- a truth after the power went while a zone turned
-abbrev pub IsLossInsideTurn : Truth → ℕ → Cond → Truth → Type 0
-IsLossInsideTurn t z to new = IsLossOf t new ⊎ IsLossOf (turned t z to) new

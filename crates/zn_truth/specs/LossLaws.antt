@@ -9,7 +9,7 @@ use Rattle.zn_truth.specs.Power.{lost, during}
 use Rattle.zn_truth.specs.Loss.{IsLossOf, IsLossInside}
 use Rattle.zn_truth.specs.World.{World, issue, geometry_of, meets, command_of, zones_of}
 use Rattle.zn_truth.specs.Inject.{lose_power}
-use Rattle.zn_truth.specs.Lists.{IsOrderFor}
+use Rattle.zn_truth.specs.Obeying.{IsOrderFor}
 
 -- what a scripted loss leaves is a loss of what was
 abbrev pub LostIsLoss : Type 0

@@ -5,7 +5,8 @@ use Rattle.zn_truth.specs.declared.DevError.{DevError}
 use Rattle.zn_truth.specs.declared.DevError.TheVariants.{PowerLost}
 use Rattle.zn_truth.specs.Orders.{Order, ReadAt, WriteAt, Manage, FlushAll, ReportFrom, Reply}
 use Rattle.zn_truth.specs.World.{World, issue}
-use Rattle.zn_truth.specs.Lists.{first_failure, issue_all, each_zone, Obeys, ObeysAll}
+use Rattle.zn_truth.specs.OrderLists.{first_failure, issue_all, each_zone}
+use Rattle.zn_truth.specs.Obeying.{Obeys, ObeysAll}
 
 -- ---- lists
 

@@ -2,6 +2,7 @@
 -- Refusals and effects are those of zoned block devices; their order, the limits' rules and what becomes
 -- durable are own.
 use Rattle.std.specs.Prelude.{ℕ, ◌+◌, ◌-◌, ◌*◌, ◌/◌, true, false, ◌&&◌, ◌||◌, not, ◌==◌, nat_lt, List, [], ◌++◌, length, take, drop, replicate, map, if◌then◌else◌, Option, Some, None, Result, Ok, Err}
+use Rattle.zn_truth.specs.declared.limits.TheConstants.{BLOCK_SIZE}
 use Rattle.zn_truth.specs.declared.Kind.{Kind}
 use Rattle.zn_truth.specs.declared.Kind.TheVariants.{Conventional, Sequential}
 use Rattle.zn_truth.specs.declared.Cond.{Cond}
@@ -69,10 +70,10 @@ replaced old at new = take at old ++ new ++ drop (at + length new) old
 -- A write in its first stage: the bytes are put in place, and none of them is durable.
 abbrev pub placed : Kind → Zone → ℕ → List ℕ → Zone
 placed Conventional zone at new = record zone {
-  bytes = replaced zone.bytes (4096 * at) new;
-  unflushed = take at zone.unflushed ++ replicate (length new / 4096) true ++ drop (at + length new / 4096) zone.unflushed;
+  bytes = replaced zone.bytes (BLOCK_SIZE * at) new;
+  unflushed = take at zone.unflushed ++ replicate (length new / BLOCK_SIZE) true ++ drop (at + length new / BLOCK_SIZE) zone.unflushed;
 }
-placed Sequential zone at new = record zone { held = zone.held + length new / 4096; bytes = zone.bytes ++ new }
+placed Sequential zone at new = record zone { held = zone.held + length new / BLOCK_SIZE; bytes = zone.bytes ++ new }
 
 -- A write in its second stage: a sequential zone that is full is durable and not explicitly open.
 abbrev pub filled : Kind → Shape → Zone → Zone
@@ -93,7 +94,7 @@ managed Close shape zone = record zone { explicit = false }
 managed Reset shape zone = record zone { held = 0; bytes = []; durable = 0; explicit = false }
 managed Finish shape zone = record zone {
   held = shape.zone_capacity;
-  bytes = zone.bytes ++ replicate (4096 * (shape.zone_capacity - zone.held)) 0;
+  bytes = zone.bytes ++ replicate (BLOCK_SIZE * (shape.zone_capacity - zone.held)) 0;
   durable = shape.zone_capacity;
   explicit = false;
 }

@@ -1,5 +1,6 @@
 -- What a scripted loss of power makes of a truth, at rest or inside a command. (own)
 use Rattle.std.specs.Prelude.{ℕ, ◌+◌, ◌-◌, ◌*◌, min, max, Bool, true, false, ◌==◌, nat_lt, List, [], ◌∷◌, ◌++◌, length, take, drop, replicate, if◌then◌else◌, Option, Some, None, unwrap_or}
+use Rattle.zn_truth.specs.declared.limits.TheConstants.{BLOCK_SIZE}
 use Rattle.zn_truth.specs.declared.Kind.{Kind}
 use Rattle.zn_truth.specs.declared.Kind.TheVariants.{Conventional, Sequential}
 use Rattle.zn_truth.specs.declared.ZoneNo.{ZoneNo}
@@ -11,11 +12,11 @@ use Rattle.zn_truth.specs.Orders.{Order, ReadAt, WriteAt, Manage, FlushAll, Repo
 -- the bytes with this one in place of each from block `from` on, if one is given
 abbrev pub with_fill : Option ℕ → ℕ → List ℕ → List ℕ
 with_fill None from bytes = bytes
-with_fill (Some byte) from bytes = take (4096 * from) bytes ++ replicate (length bytes - 4096 * from) byte
+with_fill (Some byte) from bytes = take (BLOCK_SIZE * from) bytes ++ replicate (length bytes - BLOCK_SIZE * from) byte
 
 -- the zone holds this many blocks, filled from a block on, and all of it is durable
 abbrev pub settled : Zone → ℕ → ℕ → Option ℕ → Zone
-settled zone from len fill = record zone { held = len; bytes = with_fill fill from (take (4096 * len) zone.bytes); durable = len }
+settled zone from len fill = record zone { held = len; bytes = with_fill fill from (take (BLOCK_SIZE * len) zone.bytes); durable = len }
 
 -- a length raised to the durable one or lowered to the blocks held
 abbrev pub clamped : Zone → ℕ → ℕ
@@ -30,7 +31,7 @@ cut_of (cut ∷ cuts) z = if cut.0.0 == z then Some cut.1 else cut_of cuts z
 abbrev pub with_filled_blocks : ℕ → List Bool → List ℕ → List ℕ
 with_filled_blocks byte [] bytes = bytes
 with_filled_blocks byte (flag ∷ flags) bytes =
-    (if flag then replicate (min 4096 (length bytes)) byte else take 4096 bytes) ++ with_filled_blocks byte flags (drop 4096 bytes)
+    (if flag then replicate (min BLOCK_SIZE (length bytes)) byte else take BLOCK_SIZE bytes) ++ with_filled_blocks byte flags (drop BLOCK_SIZE bytes)
 
 -- the same, if a byte is given; else the bytes stay
 abbrev pub with_fill_unflushed : Option ℕ → List Bool → List ℕ → List ℕ
@@ -70,7 +71,7 @@ cut_write t z at bytes loss =
     let cut = unwrap_or (cut_of loss.cuts z) (zone_at t z).durable in
     let before = with_zone t z (settled (zone_at t z) (zone_at t z).durable (clamped (zone_at t z) cut) loss.fill) in
     if nat_lt (zone_at t z).held cut
-    then (let after = (done before (WriteAt z at (stored loss.fill (take (4096 * (cut - (zone_at t z).held)) bytes)))).truth in
+    then (let after = (done before (WriteAt z at (stored loss.fill (take (BLOCK_SIZE * (cut - (zone_at t z).held)) bytes)))).truth in
     with_zone after z (settled (zone_at after z) (zone_at after z).held (zone_at after z).held None))
     else before
 

@@ -9,7 +9,8 @@ use Rattle.zn_truth.specs.declared.Armed.{Armed}
 use Rattle.zn_truth.specs.Truth.{IsSound}
 use Rattle.zn_truth.specs.Orders.{Order}
 use Rattle.zn_truth.specs.World.{World, geometry_of, issue}
-use Rattle.zn_truth.specs.Lists.{IsOrderFor, issue_all}
+use Rattle.zn_truth.specs.OrderLists.{issue_all}
+use Rattle.zn_truth.specs.Obeying.{IsOrderFor}
 use Rattle.zn_truth.specs.Inject.{inject, arm_loss, turn, lose_power, power_on}
 
 -- An order leaves a sound truth sound, whether it is done, refused, met by a fault, or struck by the armed loss.
@@ -60,3 +61,14 @@ ArmLossKeepsTruth = (w : World) (armed : Armed) → LeavesTruth w (arm_loss w ar
 -- the power comes back to what the device held
 abbrev pub PowerOnKeepsTruth : Type 0
 PowerOnKeepsTruth = (w : World) → (power_on w).truth ≡ w.truth
+
+-- ---- telling
+
+-- Nothing changes whether a device tells its bytes: no order, fault, turn or loss of power.
+pub record NothingTells : Type 0 where
+  pub issue : (w : World) (order : Order) → (issue w order).world.truth.told ≡ w.truth.told
+  pub issue_all : (w : World) (orders : List Order) → (issue_all w orders).world.truth.told ≡ w.truth.told
+  pub inject : (w : World) (fault : FaultSpec) → (inject w fault).world.truth.told ≡ w.truth.told
+  pub turn : (w : World) (z : ℕ) (to : Cond) → (turn w z to).world.truth.told ≡ w.truth.told
+  pub lose_power : (w : World) (loss : LossSpec) → (lose_power w loss).world.truth.told ≡ w.truth.told
+  pub arm_loss : (w : World) (armed : Armed) → (arm_loss w armed).world.truth.told ≡ w.truth.told

@@ -1,6 +1,7 @@
 -- What a zoned device holds: per zone its kind, condition, blocks, bytes and what of them is durable.
 -- The record of each zone is that of zoned block devices, with what lasts over a loss of power added (own).
 use Rattle.std.specs.Prelude.{◌≡◌, ℕ, ◌*◌, ◌<◌, ◌≤◌, Bool, true, false, ◌&&◌, ◌||◌, not, ◌==◌, nat_lt, nat_le, List, [], length, take, drop, map, replicate, count_by, if◌then◌else◌, slice_set, slice_index_or, IsTrue}
+use Rattle.zn_truth.specs.declared.limits.TheConstants.{BLOCK_SIZE}
 use Rattle.zn_truth.specs.declared.Kind.{Kind}
 use Rattle.zn_truth.specs.declared.Kind.TheVariants.{Conventional, Sequential}
 use Rattle.zn_truth.specs.declared.Cond.{Cond}
@@ -87,7 +88,7 @@ info_at t z = record { cond = (zone_at t z).cond; held = (zone_at t z).held; exp
 
 -- the bytes of blocks of a zone, from a block on, where they are told
 abbrev pub bytes_at : Truth → ℕ → ℕ → ℕ → List ℕ
-bytes_at t z at n = take (4096 * n) (drop (4096 * at) (zone_at t z).bytes)
+bytes_at t z at n = take (BLOCK_SIZE * n) (drop (BLOCK_SIZE * at) (zone_at t z).bytes)
 
 -- ---- counts
 
@@ -116,7 +117,7 @@ cleared flags = replicate (length flags) false
 -- What each zone of a truth keeps to.
 pub record IsSoundZone (told : Bool) (shape : Shape) (zone : Zone) : Type 0 where
   pub held : zone.held ≤ room shape zone.kind
-  pub bytes : length zone.bytes ≡ (if told then 4096 * zone.held else 0)
+  pub bytes : length zone.bytes ≡ (if told then BLOCK_SIZE * zone.held else 0)
   pub durable : zone.durable ≤ zone.held
   -- a full sequential zone is durable as a whole
   pub full : IsTrue (is_sequential zone.kind) → zone.held ≡ shape.zone_capacity → zone.durable ≡ zone.held

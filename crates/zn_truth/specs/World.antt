@@ -1,5 +1,6 @@
 -- A device with power that may go and faults that wait for a command, and what becomes of an order to it. (own)
 use Rattle.std.specs.Prelude.{ℕ, ◌+◌, ◌*◌, ◌/◌, min, Bool, true, false, ◌&&◌, ◌||◌, ◌==◌, nat_lt, nat_le, List, [], length, take, remove, position, slice_get, if◌then◌else◌, Option, Some, None, unwrap_or, Ok, Err}
+use Rattle.zn_truth.specs.declared.limits.TheConstants.{BLOCK_SIZE}
 use Rattle.zn_truth.specs.declared.ZoneOp.{ZoneOp}
 use Rattle.zn_truth.specs.declared.ZoneOp.TheVariants.{Open as do_open, Close as do_close, Reset as do_reset, Finish as do_finish}
 use Rattle.zn_truth.specs.declared.DevError.TheVariants.{Fault, PowerLost}
@@ -116,8 +117,8 @@ settled_by_flush t z keep =
 -- keeps; nothing else is done, but that a flush may shorten the fault's zone.
 unfoldable pub faulted : Truth → Order → FaultSpec → Done
 faulted t (WriteAt z at bytes) fault =
-    if min (unwrap_or fault.keep 0) (length bytes / 4096) == 0 then record { reply = Err Fault; truth = t }
-    else broken_off (done t (WriteAt z at (take (4096 * min (unwrap_or fault.keep 0) (length bytes / 4096)) bytes)))
+    if min (unwrap_or fault.keep 0) (length bytes / BLOCK_SIZE) == 0 then record { reply = Err Fault; truth = t }
+    else broken_off (done t (WriteAt z at (take (BLOCK_SIZE * min (unwrap_or fault.keep 0) (length bytes / BLOCK_SIZE)) bytes)))
 faulted t FlushAll fault = record { reply = Err Fault; truth = settled_by_flush t fault.zone.0 (unwrap_or fault.keep 0) }
 faulted t (ReadAt z at n) fault = record { reply = Err Fault; truth = t }
 faulted t (Manage z op) fault = record { reply = Err Fault; truth = t }

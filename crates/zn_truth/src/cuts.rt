@@ -1,26 +1,27 @@
 // The blocks that zones are cut to by a loss of power.
 ghost use Rattle.std.specs.Prelude.{◌≡◌, ◌<◌, ◌≤◌, ◌↔◌, [], ◌∷◌, ◌++◌, length, slice_get, Some, MatchBool, IsTrue};
-ghost use Rattle.zn_truth.specs.Limits.{max_cuts};
 
 use crate::ZoneNo;
+use crate::limits::MAX_CUTS;
 use std::marker::Model;
 
 /// At most 64 pairs of a zone and a number of blocks, in the order in which they came. No call takes memory.
 #[derive(Drop)]
 pub struct Cuts {
-    pairs: [(ZoneNo, u32); 64],
+    pairs: [(ZoneNo, u32); MAX_CUTS as usize],
     count: u32,
 }
 
 impl Model for Cuts {
     ghost use Rattle.std.specs.Prelude.{◌≡◌, ℕ, ◌≤◌, List, length, take};
     ghost use Rattle.zn_truth.specs.declared.ZoneNo.{ZoneNo};
+    ghost use Rattle.zn_truth.specs.declared.limits.TheConstants.{MAX_CUTS};
 
     ghost Value = { List (ZoneNo × ℕ) };
 
     ghost view = { λ c. take c.count c.pairs };
 
-    ghost invariant = { λ c. (length c.pairs ≡ 64) × (c.count ≤ 64) };
+    ghost invariant = { λ c. (length c.pairs ≡ MAX_CUTS) × (c.count ≤ MAX_CUTS) };
 }
 
 impl Cuts {
@@ -29,7 +30,7 @@ impl Cuts {
         ensures { result ≡ [] }
     {
         Cuts {
-            pairs: [(ZoneNo(0), 0); 64],
+            pairs: [(ZoneNo(0), 0); MAX_CUTS as usize],
             count: 0,
         }
     }
@@ -37,10 +38,10 @@ impl Cuts {
     /// Adds a pair at the end. False, with nothing changed, exactly where 64 pairs are there.
     pub fn push(&mut self, zone: ZoneNo, blocks: u32) -> bool
         ensures added { MatchBool result (self.new ≡ self.old ++ (zone, blocks) ∷ []) (self.new ≡ self.old) }
-        ensures room { IsTrue result ↔ (length self.old < max_cuts) }
-        ensures limit { length self.new ≤ max_cuts }
+        ensures room { IsTrue result ↔ (length self.old < MAX_CUTS) }
+        ensures limit { length self.new ≤ MAX_CUTS }
     {
-        if self.count == 64 {
+        if self.count == MAX_CUTS {
             return false;
         }
         self.pairs[self.count as usize] = (zone, blocks);
@@ -51,7 +52,7 @@ impl Cuts {
     /// How many pairs there are.
     pub fn len(&self) -> u32
         ensures len { result ≡ length self.now }
-        ensures limit { result ≤ max_cuts }
+        ensures limit { result ≤ MAX_CUTS }
     {
         self.count
     }

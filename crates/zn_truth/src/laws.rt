@@ -1,6 +1,7 @@
 // Laws over the definitions, each the contract of a function that does nothing.
 ghost use Rattle.zn_truth.specs.Laws.{CalmIsDone};
-ghost use Rattle.zn_truth.specs.SoundLaws.{IssueKeepsSound, IssueKeepsGeometry, IssueAllKeepsSound, IssueAllKeepsGeometry, TurnKeepsSound, TurnKeepsGeometry, LosePowerKeepsSound, LosePowerKeepsGeometry, InjectKeepsTruth, ArmLossKeepsTruth, PowerOnKeepsTruth};
+ghost use Rattle.zn_truth.specs.Hush.{HushedIssue};
+ghost use Rattle.zn_truth.specs.SoundLaws.{IssueKeepsSound, IssueKeepsGeometry, IssueAllKeepsSound, IssueAllKeepsGeometry, TurnKeepsSound, TurnKeepsGeometry, LosePowerKeepsSound, LosePowerKeepsGeometry, InjectKeepsTruth, ArmLossKeepsTruth, PowerOnKeepsTruth, NothingTells};
 
 /// A device with power and nothing that waits does what it is told, and stays so.
 #[tactic(auto, unfolding(crate::specs::World::issue, crate::specs::World::met, crate::specs::World::unmet))]
@@ -72,4 +73,15 @@ pub fn arm_loss_keeps_truth()
 #[tactic(auto, unfolding(crate::specs::Inject::power_on))]
 pub fn power_on_keeps_truth()
     ensures { PowerOnKeepsTruth }
+{}
+
+/// Nothing changes whether a device tells its bytes.
+#[tactic(auto, using(crate::proofs::Telling::issue_told, crate::proofs::Telling::issue_all_told, crate::proofs::Telling::inject_told, crate::proofs::Telling::turn_told, crate::proofs::Telling::lose_power_told, crate::proofs::Telling::arm_loss_told))]
+pub fn nothing_tells()
+    ensures { NothingTells }
+{}
+
+/// Without its bytes a device does the same.
+pub fn hushed_issue()
+    ensures { HushedIssue }
 {}

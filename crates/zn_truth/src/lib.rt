@@ -4,11 +4,14 @@
 
 pub mod cases;
 mod cuts;
+pub mod failure_laws;
 pub mod laws;
+mod limits;
 pub mod loss_laws;
 pub mod order_laws;
 
 pub use cuts::Cuts;
+pub use limits::{BLOCK_SIZE, MAX_BLOCKS, MAX_CUTS, MAX_FAULTS, MAX_ZONES, is_reached};
 
 /// The number of a zone of the device, from 0 on.
 #[derive(Clone, Copy, Debug, PartialEq, Eq, PartialOrd, Ord)]

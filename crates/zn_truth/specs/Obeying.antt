@@ -1,33 +1,18 @@
--- Orders one after another, and what a function that gives a device orders owes.
-use Rattle.std.specs.Prelude.{◌≡◌, ℕ, ◌+◌, ◌-◌, ◌*◌, ◌/◌, ◌<◌, ◌≤◌, Bool, true, false, List, [], ◌∷◌, length, map, Ok, Err, IsTrue}
-use Rattle.std.specs.List.{range_with_len}
+-- Which orders a device takes, and what a function that gives a device orders owes. (own)
+use Rattle.std.specs.Prelude.{◌≡◌, ℕ, ◌+◌, ◌*◌, ◌/◌, ◌<◌, ◌≤◌, Bool, true, false, List, length, Ok, Err, IsTrue}
+use Rattle.zn_truth.specs.declared.limits.TheConstants.{BLOCK_SIZE}
 use Rattle.zn_truth.specs.declared.DevError.TheVariants.{Broken, Memory}
 use Rattle.zn_truth.specs.declared.Kind.TheVariants.{Sequential}
 use Rattle.zn_truth.specs.Truth.{Geometry, room, kind_at}
 use Rattle.zn_truth.specs.Orders.{Order, ReadAt, WriteAt, Manage, FlushAll, ReportFrom, Reply}
-use Rattle.zn_truth.specs.World.{World, Outcome, issue, geometry_of}
-
--- ---- lists of orders
-
--- the first outcome if it failed, or else the second
-abbrev pub first_failure : Reply → Outcome → Outcome → Outcome
-first_failure (Ok unit) first second = second
-first_failure (Err error) first second = first
-
--- orders one after another, up to the first that fails
-abbrev pub issue_all : World → List Order → Outcome
-issue_all w [] = record { reply = Ok tt; world = w }
-issue_all w (order ∷ orders) = first_failure (issue w order).reply (issue w order) (issue_all (issue w order).world orders)
-
--- the orders for the zones of a range of indices, from one to before another
-unfoldable pub each_zone : (ℕ → Order) → ℕ → ℕ → List Order
-each_zone order from to = map order (range_with_len from (to - from))
+use Rattle.zn_truth.specs.World.{World, issue, geometry_of}
+use Rattle.zn_truth.specs.OrderLists.{issue_all}
 
 -- ---- which orders a device takes
 
 -- bytes in whole blocks, and not none
 pub record IsWhole (bytes : List ℕ) : Type 0 where
-  pub whole : 4096 * (length bytes / 4096) ≡ length bytes
+  pub whole : BLOCK_SIZE * (length bytes / BLOCK_SIZE) ≡ length bytes
   pub some : 0 < length bytes
 
 -- blocks of a zone
@@ -69,7 +54,7 @@ pub record ObeysAll (orders : List Order) (result : Reply) (old new : World) : T
 -- sequential zone is managed
 abbrev pub IsOrderFor : Geometry → Order → Type 0
 IsOrderFor g (ReadAt z at n) = Fits g z at n
-IsOrderFor g (WriteAt z at bytes) = IsWhole bytes × Fits g z at (length bytes / 4096)
+IsOrderFor g (WriteAt z at bytes) = IsWhole bytes × Fits g z at (length bytes / BLOCK_SIZE)
 IsOrderFor g (Manage z op) = IsZoneToManage g z
 IsOrderFor g FlushAll = Unit {0}
 IsOrderFor g (ReportFrom first n) = first + n ≤ length g.kinds
