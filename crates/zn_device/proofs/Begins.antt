@@ -18,7 +18,7 @@ use Rattle.zn_zone.proofs.ByFacts.{active-bare}
 use Rattle.zn_device.specs.declared.store.Store.{Store}
 use Rattle.zn_truth.specs.Fresh.{fresh_zone}
 use Rattle.zn_device.specs.Fresh.{fresh}
-use Rattle.zn_device.specs.Seen.{zone_of, info_in, zones_of, truth_of, Keeps, HasBuffer, HasStores, AreFresh, IsSoundDevice}
+use Rattle.zn_device.specs.Stores.{zone_of, info_in, zones_of, truth_of, Keeps, HasBuffer, HasStores, AreFresh, IsSoundDevice}
 use Rattle.zn_device.proofs.Stores.{length-zones_of, get_or-zones_of}
 
 -- ---- the truth

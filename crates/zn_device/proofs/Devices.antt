@@ -1,5 +1,6 @@
 -- What a device in memory owes its callers.
 use Rattle.std.proofs.Common.{◌≡◌, ℕ, ◌≤◌, true, false, List, [], ◌∷◌, length, map, Ok, Err, refl, sym, ap, ◌∙◌, subst, arith}
+use Rattle.std.specs.Prelude.{not}
 use Rattle.std.specs.List.{range_with_len}
 use Rattle.std.proofs.lemmas.Bool.{false≢true}
 use Rattle.std.proofs.Math.ListN.{get_or-map}
@@ -8,14 +9,15 @@ use Rattle.zn_truth.specs.Truth.{Truth, Geometry, no_zone, kind_at, info_at, geo
 use Rattle.zn_truth.specs.Limits.{IsWithinLimits}
 use Rattle.zn_truth.specs.Orders.{Reply, Order, FlushAll, ReportFrom, done}
 use Rattle.zn_truth.specs.World.{calm, geometry_of}
-use Rattle.zn_truth.specs.Lists.{IsOrderFor, is_answered}
+use Rattle.zn_truth.specs.Obeying.{IsOrderFor, is_answered}
 use Rattle.zn_truth.proofs.Issuing.{done_answers, done_no_fault}
-use Rattle.zn_truth.proofs.Sound.{done_sound, done-geometry}
+use Rattle.zn_truth.proofs.Sound.{done_sound, done-geometry, calm_obeys}
 use Rattle.zn_zone.proofs.Within.{is_within}
 use Rattle.zn_zone.specs.Facts.{Facts, zone_facts, facts_at, info_of}
 use Rattle.zn_device.specs.declared.store.Store.{Store}
-use Rattle.zn_device.specs.Causes.{DeviceCause, IsMemoryFree}
-use Rattle.zn_device.specs.Seen.{truth_of, HasStores, IsSoundDevice}
+use Rattle.zn_device.specs.States.{Commanded}
+use Rattle.zn_device.specs.Memory.{calm_state}
+use Rattle.zn_device.specs.Stores.{truth_of, HasStores, IsSoundDevice}
 use Rattle.zn_zone.specs.Machine.{Machine, state_at, facts}
 use Rattle.zn_device.proofs.Places.{zones_in, kind_in}
 use Rattle.zn_device.proofs.Stores.{facts_of-truth_of}
@@ -24,19 +26,29 @@ use Rattle.zn_device.proofs.Stores.{facts_of-truth_of}
 answered_apart : (r e : Reply) → is_answered r ≡ true → is_answered e ≡ false → r ≡ e → ⊥
 answered_apart r e is_answer is_none is = false≢true (sym is_none ∙ ap is_answered (sym is) ∙ is_answer)
 
--- counts that stand still
-pub calm_cause : (t : Truth) (order : Order) (r : Reply) (faults breaks : ℕ) → r ≡ (done t order).reply → DeviceCause r faults faults breaks breaks
-calm_cause t order r faults breaks h = record {
-  later = omega arith;
-  fault = λ is. absurd (done_no_fault t order r h is);
-  kept = λ ok. refl;
-  no_fewer = omega arith;
-  broken = λ is. absurd (answered_apart r (Err Broken) (done_answers t order r h) refl is);
-  whole = λ answered. refl;
+-- a command to a device that has power and never fails
+pub calm_commanded : (t u : Truth) (r : Reply) (order : Order) → r ≡ (done t order).reply → u ≡ (done t order).truth → Commanded order r (calm_state t) (calm_state u)
+calm_commanded t u r order reply truth = record {
+  obeys = calm_obeys t u r order reply truth;
+  caused = record {
+    spoilt = ap not (sym (done_answers t order r reply));
+    cause = record {
+      later = omega arith;
+      fault = λ is. absurd (done_no_fault t order r reply is);
+      kept = λ ok. refl;
+      no_fewer = omega arith;
+      broken = λ is. absurd (answered_apart r (Err Broken) (done_answers t order r reply) refl is);
+      whole = λ answered. refl;
+    };
+    memory = λ none is. answered_apart r (Err Memory) (done_answers t order r reply) refl is;
+    same = refl;
+    keeps = refl;
+    powered = λ is. refl;
+    still_powered = λ is. refl;
+    no_fault = λ answered pending. refl;
+  };
+  named = λ keeps refused is. answered_apart r (Err Broken) (done_answers t order r reply) refl is;
 }
-
-pub calm_memory : (t : Truth) (order : Order) (r : Reply) → r ≡ (done t order).reply → IsMemoryFree false r
-calm_memory t order r h = λ none is. answered_apart r (Err Memory) (done_answers t order r h) refl is
 
 -- a device after an order
 pub device_after : (f g : Facts) (stores new : List Store) (order : Order) → IsSoundDevice f stores → IsOrderFor (geometry_of (calm (truth_of f stores))) order → HasStores g new

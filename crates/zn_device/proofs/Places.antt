@@ -14,7 +14,7 @@ use Rattle.zn_truth.specs.declared.Shape.{Shape}
 use Rattle.zn_truth.specs.declared.ZoneInfo.{ZoneInfo}
 use Rattle.zn_truth.specs.Truth.{Zone, Truth, Geometry, no_zone, zone_at, room, is_good, kind_at, geometry, IsSoundZone}
 use Rattle.zn_truth.specs.Limits.{IsWithinLimits}
-use Rattle.zn_truth.specs.Lists.{Fits, IsZoneToManage}
+use Rattle.zn_truth.specs.Obeying.{Fits, IsZoneToManage}
 use Rattle.zn_truth.specs.Orders.{Order, ReadAt, reading, done}
 use Rattle.zn_truth.proofs.Issuing.{zones-in_geometry}
 use Rattle.zn_truth.proofs.Sound.{done-geometry}
@@ -23,7 +23,7 @@ use Rattle.zn_zone.specs.Facts.{ZoneFacts, Facts, zone_facts, facts_of, facts_at
 use Rattle.zn_zone.specs.Machine.{Machine, state_at, facts}
 use Rattle.zn_zone.proofs.ByFacts.{facts_of-bare}
 use Rattle.zn_device.specs.declared.store.Store.{Store}
-use Rattle.zn_device.specs.Seen.{zone_of, truth_of, HasBuffer, held_before, HasStores, IsSoundDevice}
+use Rattle.zn_device.specs.Stores.{zone_of, truth_of, HasBuffer, held_before, HasStores, IsSoundDevice}
 use Rattle.zn_device.proofs.Stores.{length-zones_of, facts_of-truth_of, zone_at-truth_of, facts_at-facts, zones-facts}
 
 -- ---- the geometry, by the facts

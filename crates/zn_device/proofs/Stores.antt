@@ -17,7 +17,7 @@ use Rattle.zn_zone.specs.Facts.{ZoneFacts, Facts, zone_facts, facts_of, facts_at
 use Rattle.zn_zone.specs.Machine.{Machine, no_state, state_at, facts_in, facts}
 use Rattle.zn_zone.proofs.ByFacts.{refusal-bare, after-bare}
 use Rattle.zn_device.specs.declared.store.Store.{Store}
-use Rattle.zn_device.specs.Seen.{zone_of, Keeps, zones_of, truth_of}
+use Rattle.zn_device.specs.Stores.{zone_of, Keeps, zones_of, truth_of}
 
 -- ---- zones
 

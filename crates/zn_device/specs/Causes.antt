@@ -1,9 +1,9 @@
 -- When a device may answer a fault, and what its counts do. (own)
-use Rattle.std.specs.Prelude.{◌≡◌, ℕ, ◌≤◌, Bool, false, IsOk, IsErrOf}
+use Rattle.std.specs.Prelude.{◌≡◌, ℕ, ◌≤◌, Bool, true, false, Ok, Err, IsOk, IsErrOf}
 use Rattle.zn_base.specs.Causes.{Rose}
-use Rattle.zn_truth.specs.declared.DevError.TheVariants.{Fault, Broken, Memory}
+use Rattle.zn_truth.specs.declared.DevError.TheVariants.{Fault, PowerLost, Broken, Memory}
 use Rattle.zn_truth.specs.Orders.{Reply}
-use Rattle.zn_truth.specs.Lists.{IsAnswered}
+use Rattle.zn_truth.specs.Obeying.{IsAnswered}
 
 -- The counts of a device never fall. A fault is answered only where the count of faults rose, and a break
 -- only where that of breaks did; an order that is done leaves both.
@@ -18,3 +18,12 @@ pub record DeviceCause (result : Reply) (faults0 faults breaks0 breaks : ℕ) : 
 -- a device whose commands take no memory never answers want of it
 abbrev pub IsMemoryFree : Bool → Reply → Type 0
 IsMemoryFree takes_memory result = takes_memory ≡ false → IsErrOf result Memory → ⊥
+
+-- a refusal by a zone's condition, by what it holds, or by a limit
+abbrev pub is_refused : Reply → Bool
+is_refused (Ok unit) = false
+is_refused (Err Fault) = false
+is_refused (Err PowerLost) = false
+is_refused (Err Broken) = false
+is_refused (Err Memory) = false
+is_refused (Err error) = true

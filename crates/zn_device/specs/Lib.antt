@@ -1,4 +1,7 @@
 pub mod Causes
 pub mod Fresh
+pub mod Laws
 pub mod Memory
-pub mod Seen
+pub mod Quiet
+pub mod Stores
+pub mod States

@@ -1,7 +1,7 @@
 // A device to which nothing was written.
 ghost use Rattle.std.specs.Prelude.{◌≡◌, map, IfOk};
 ghost use Rattle.zn_truth.specs.Fresh.{fresh_zone};
-ghost use Rattle.zn_device.specs.Seen.{info_in, AreFresh};
+ghost use Rattle.zn_device.specs.Stores.{info_in, AreFresh};
 
 use crate::store::Store;
 use std::alloc::{AllocError, Global};

@@ -2,13 +2,13 @@
 ghost use Rattle.std.specs.Prelude.{◌≡◌, ◌+◌, ◌*◌, ◌/◌, ◌≤◌, length, take, drop, IfOk};
 ghost use Rattle.zn_truth.specs.Truth.{room};
 ghost use Rattle.zn_truth.specs.Orders.{replaced, written, managed, flushed};
-ghost use Rattle.zn_truth.specs.Lists.{IsWhole};
+ghost use Rattle.zn_truth.specs.Obeying.{IsWhole};
 ghost use Rattle.zn_truth.specs.declared.Kind.TheVariants.{Conventional, Sequential};
 ghost use Rattle.zn_truth.specs.Fresh.{fresh_zone};
-ghost use Rattle.zn_device.specs.Seen.{zone_of, Keeps, HasBuffer, held_before};
+ghost use Rattle.zn_device.specs.Stores.{zone_of, Keeps, HasBuffer, held_before};
 
 use std::alloc::{AllocError, Global};
-use zn_truth::{Kind, Shape, ZoneInfo, ZoneOp};
+use zn_truth::{BLOCK_SIZE, Kind, Shape, ZoneInfo, ZoneOp};
 
 /// What is kept of a zone beside its condition and its length.
 #[derive(Drop)]
@@ -32,7 +32,7 @@ impl Store {
             Kind::Sequential => (shape.zone_capacity, 0),
         };
         Ok(Store {
-            buffer: vec![in alloc; 0; 4096 * room as usize]?,
+            buffer: vec![in alloc; 0; BLOCK_SIZE * room as usize]?,
             durable: held,
             unflushed: vec![in alloc; false; held as usize]?,
         })
@@ -40,33 +40,34 @@ impl Store {
 
     /// Reads blocks of a zone, from one on.
     pub fn read(&self, at: u32, out: &mut [u8])
-        requires { 4096 * at + length out.old ≤ length self.now.buffer.items }
-        ensures { out.new ≡ take (length out.old) (drop (4096 * at) self.now.buffer.items) }
+        requires { BLOCK_SIZE * at + length out.old ≤ length self.now.buffer.items }
+        ensures { out.new ≡ take (length out.old) (drop (BLOCK_SIZE * at) self.now.buffer.items) }
     {
-        let start = 4096 * at as usize;
+        let start = BLOCK_SIZE * at as usize;
         out.copy_from_slice(&self.buffer[start..start + out.len()]);
     }
 
     /// Puts bytes in place, from a block on.
     fn put(&mut self, at: u32, bytes: &[u8])
-        requires { 4096 * at + length bytes.now ≤ length self.old.buffer.items }
-        ensures buffer { self.new.buffer.items ≡ replaced self.old.buffer.items (4096 * at) bytes.now }
+        requires { BLOCK_SIZE * at + length bytes.now ≤ length self.old.buffer.items }
+        ensures buffer { self.new.buffer.items ≡ replaced self.old.buffer.items (BLOCK_SIZE * at) bytes.now }
         ensures same { self.new ≡ record self.old { buffer = self.new.buffer } }
     {
-        let from = 4096 * at as usize;
+        let from = BLOCK_SIZE * at as usize;
         self.buffer[from..from + bytes.len()].copy_from_slice(bytes);
     }
 
     /// Writes to a sequential zone at its end.
     fn append(&mut self, shape: Shape, at: u32, bytes: &[u8])
         requires whole { IsWhole bytes.now }
-        requires room { at + length bytes.now / 4096 ≤ shape.zone_capacity }
+        requires room { at + length bytes.now / BLOCK_SIZE ≤ shape.zone_capacity }
         requires buffer { HasBuffer shape Sequential self.old }
-        ensures zone { (info : ZoneInfo) → info.held ≡ at → Keeps self.new (written Sequential shape (zone_of Sequential info self.old) at bytes.now) }
+        ensures zone { (info : ZoneInfo) → info.held ≡ at →
+            Keeps self.new (written Sequential shape (zone_of Sequential info self.old) at bytes.now) }
         ensures buffer { HasBuffer shape Sequential self.new }
     {
         self.put(at, bytes);
-        let held = at + (bytes.len() / 4096) as u32;
+        let held = at + (bytes.len() / BLOCK_SIZE) as u32;
         if held == shape.zone_capacity {
             self.durable = held;
         }
@@ -75,23 +76,25 @@ impl Store {
     /// Writes to a conventional zone at any place.
     fn replace(&mut self, at: u32, bytes: &[u8])
         requires whole { IsWhole bytes.now }
-        requires buffer { 4096 * at + length bytes.now ≤ length self.old.buffer.items }
-        requires flags { at + length bytes.now / 4096 ≤ length self.old.unflushed.items }
-        ensures zone { (shape : Shape) (info : ZoneInfo) → at + length bytes.now / 4096 ≤ info.held → Keeps self.new (written Conventional shape (zone_of Conventional info self.old) at bytes.now) }
+        requires buffer { BLOCK_SIZE * at + length bytes.now ≤ length self.old.buffer.items }
+        requires flags { at + length bytes.now / BLOCK_SIZE ≤ length self.old.unflushed.items }
+        ensures zone { (shape : Shape) (info : ZoneInfo) → at + length bytes.now / BLOCK_SIZE ≤ info.held →
+            Keeps self.new (written Conventional shape (zone_of Conventional info self.old) at bytes.now) }
         ensures buffer { length self.new.buffer.items ≡ length self.old.buffer.items }
     {
         self.put(at, bytes);
         let first = at as usize;
-        self.unflushed[first..first + bytes.len() / 4096].fill(true);
+        self.unflushed[first..first + bytes.len() / BLOCK_SIZE].fill(true);
     }
 
     /// Writes to a zone from a block on.
     pub fn write(&mut self, shape: Shape, kind: Kind, at: u32, bytes: &[u8])
         requires whole { IsWhole bytes.now }
-        requires room { at + length bytes.now / 4096 ≤ room shape kind }
+        requires room { at + length bytes.now / BLOCK_SIZE ≤ room shape kind }
         requires buffer { HasBuffer shape kind self.old }
         requires flags { kind ≡ Conventional → length self.old.unflushed.items ≡ shape.zone_blocks }
-        ensures zone { (info : ZoneInfo) → info.held ≡ held_before kind shape at → Keeps self.new (written kind shape (zone_of kind info self.old) at bytes.now) }
+        ensures zone { (info : ZoneInfo) → info.held ≡ held_before kind shape at →
+            Keeps self.new (written kind shape (zone_of kind info self.old) at bytes.now) }
         ensures buffer { HasBuffer shape kind self.new }
     {
         match kind {
@@ -107,7 +110,7 @@ impl Store {
         ensures zone { Keeps self.new (managed ZoneOp.Finish shape (zone_of Sequential info self.old)) }
         ensures buffer { HasBuffer shape Sequential self.new }
     {
-        let from = 4096 * info.held as usize;
+        let from = BLOCK_SIZE * info.held as usize;
         self.buffer[from..].fill(0);
         self.durable = shape.zone_capacity;
     }

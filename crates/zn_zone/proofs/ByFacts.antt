@@ -1,10 +1,8 @@
 -- Refusals and effects of a truth depend on its facts alone.
-use Rattle.std.proofs.Common.{◌≡◌, ℕ, ◌+◌, ◌*◌, ◌/◌, Bool, false, cond, List, [], ◌∷◌, length, map, set, replicate, Option, Some, None, refl, sym, ap, ◌∙◌, zero-add, lit<}
-use Rattle.std.specs.Prelude.{count_by}
+use Rattle.std.proofs.Common.{◌≡◌, ℕ, ◌+◌, ◌*◌, ◌/◌, false, List, [], ◌∷◌, length, map, set, replicate, Option, Some, None, refl, sym, ap, ◌∙◌, zero-add, lit<}
 use Rattle.std.proofs.Math.ListN.{get_or-map}
 use Rattle.std.proofs.Math.Nat.{mul-div_cancel_left}
 use Rattle.std.proofs.lemmas.List.{map-set, length-replicate}
-use Rattle.std.proofs.lemmas.List.Sums.{sum_by-cons}
 use Rattle.zn_truth.specs.declared.Kind.{Kind}
 use Rattle.zn_truth.specs.declared.Kind.TheVariants.{Conventional, Sequential}
 use Rattle.zn_truth.specs.declared.Shape.{Shape}
@@ -13,14 +11,10 @@ use Rattle.zn_truth.specs.declared.ZoneOp.TheVariants.{Open, Close, Reset, Finis
 use Rattle.zn_truth.specs.declared.DevError.{DevError}
 use Rattle.zn_truth.specs.Truth.{Zone, Truth, no_zone, zone_at, with_zone, seen, is_active, active, explicit}
 use Rattle.zn_truth.specs.Orders.{Order, ReadAt, WriteAt, Manage, FlushAll, ReportFrom, opening, writing, managing, refusal, written, managed, flushed, effect, done_unless, done}
+use Rattle.zn_truth.proofs.Sound.{count_by-map}
 use Rattle.zn_zone.specs.Facts.{Facts, zone_facts, facts_of, bare_zone, bare, with_facts, outline, refusal_by, after}
 
 -- ---- lists
-
-pub count_by-map : {X Y : Type 0} (p : Y → Bool) (f : X → Y) (xs : List X) → count_by p (map f xs) ≡ count_by (λ x. p (f x)) xs
-count_by-map p f [] = refl
-count_by-map p f (x ∷ xs) =
-    sum_by-cons (λ y. cond (p y) 1 0) (f x) (map f xs) ∙ ap (λ n. cond (p (f x)) 1 0 + n) (count_by-map p f xs) ∙ sym (sum_by-cons (λ z. cond (p (f z)) 1 0) x xs)
 
 pub map-same : {X : Type 0} (f : X → X) (xs : List X) → ((x : X) → f x ≡ x) → map f xs ≡ xs
 map-same f [] h = refl

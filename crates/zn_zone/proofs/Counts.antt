@@ -16,7 +16,7 @@ use Rattle.zn_zone.specs.declared.state.State.{State}
 use Rattle.zn_zone.specs.Facts.{bare_zone, bare}
 use Rattle.zn_zone.specs.Table.{is_implicit, is_explicit, is_open, is_active, cond_of}
 use Rattle.zn_zone.specs.Machine.{Machine, no_state, state_in, state_at, facts_in, facts, active_in, open_in, first_implicit, no_open_place, fits}
-use Rattle.zn_zone.proofs.ByFacts.{count_by-map}
+use Rattle.zn_truth.proofs.Sound.{count_by-map}
 
 -- two tests that agree at each place count alike
 pub count_by-same : {X : Type 0} (p q : X → Bool) (xs : List X) (d : X) → ((k : ℕ) → k < length xs → p (get_or xs k d) ≡ q (get_or xs k d)) → count_by p xs ≡ count_by q xs

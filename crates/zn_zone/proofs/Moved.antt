@@ -20,7 +20,8 @@ use Rattle.zn_zone.specs.declared.state.State.{State}
 use Rattle.zn_zone.specs.Facts.{ZoneFacts, Facts, zone_facts, facts_of, bare_zone, bare, with_facts, with_held, rested}
 use Rattle.zn_zone.specs.Table.{is_explicit, is_open, is_active, cond_of}
 use Rattle.zn_zone.specs.Machine.{Machine, no_state, state_in, state_at, with_state, facts_in, facts, geometry_in, active_in, open_in, turned_to, resting, raw_cut, cut_to, raw_at_rest, at_rest, fits, HasActivePlace, IsSoundMachine}
-use Rattle.zn_zone.proofs.ByFacts.{count_by-map, map-map, facts_of-with_zone_bare}
+use Rattle.zn_truth.proofs.Sound.{count_by-map}
+use Rattle.zn_zone.proofs.ByFacts.{map-map, facts_of-with_zone_bare}
 use Rattle.zn_zone.proofs.Refusals.{zone_at-facts}
 use Rattle.zn_zone.proofs.Steps.{count_kept, count_rises, kinds-set}
 

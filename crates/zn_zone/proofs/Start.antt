@@ -18,7 +18,8 @@ use Rattle.zn_zone.specs.declared.state.State.{State}
 use Rattle.zn_zone.specs.Facts.{ZoneFacts, Facts, bare, reported_zone, reported, facts_at, IsStartZone, IsStart}
 use Rattle.zn_zone.specs.Table.{is_explicit, is_open, cond_of}
 use Rattle.zn_zone.specs.Machine.{state_at, facts_in, facts, geometry_in, open_in, raw_at_start, state_at_start, started, fits, IsSoundMachine}
-use Rattle.zn_zone.proofs.ByFacts.{count_by-map, map-map}
+use Rattle.zn_truth.proofs.Sound.{count_by-map}
+use Rattle.zn_zone.proofs.ByFacts.{map-map}
 use Rattle.zn_zone.proofs.Counts.{active-facts, count_by-same, count_none}
 use Rattle.zn_zone.proofs.Moved.{fits_resting, resting_rests}
 

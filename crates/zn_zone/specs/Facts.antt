@@ -2,6 +2,7 @@
 -- whether it is explicitly open. Bytes, and which of them are durable, are left out. (own)
 use Rattle.std.specs.Prelude.{◌≡◌, ◌<◌, ◌≤◌, IsTrue, ℕ, ◌*◌, ◌+◌, ◌/◌, Bool, false, List, [], length, map, replicate, Option, slice_index_or, slice_set}
 use Rattle.std.specs.List.{zip}
+use Rattle.zn_truth.specs.declared.limits.TheConstants.{BLOCK_SIZE}
 use Rattle.zn_truth.specs.declared.Kind.{Kind}
 use Rattle.zn_truth.specs.declared.Cond.{Cond}
 use Rattle.zn_truth.specs.declared.Shape.{Shape}
@@ -93,12 +94,12 @@ pub record IsStart (f : Facts) : Type 0 where
 
 -- a write of so many blocks, whatever their bytes
 abbrev pub write_of : ℕ → ℕ → ℕ → Order
-write_of z at blocks = WriteAt z at (replicate (4096 * blocks) 0)
+write_of z at blocks = WriteAt z at (replicate (BLOCK_SIZE * blocks) 0)
 
 -- the order without its bytes; of a read only its end counts
 abbrev pub outline : Order → Order
 outline (ReadAt z at n) = ReadAt z 0 (at + n)
-outline (WriteAt z at bytes) = write_of z at (length bytes / 4096)
+outline (WriteAt z at bytes) = write_of z at (length bytes / BLOCK_SIZE)
 outline (Manage z op) = Manage z op
 outline FlushAll = FlushAll
 outline (ReportFrom first n) = ReportFrom first n

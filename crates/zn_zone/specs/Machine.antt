@@ -7,6 +7,7 @@ use Rattle.zn_truth.specs.declared.Cond.{Cond}
 use Rattle.zn_truth.specs.declared.Cond.TheVariants.{Good, ReadOnly as read_only, Offline as offline}
 use Rattle.zn_truth.specs.declared.Shape.{Shape}
 use Rattle.std.specs.List.{zip}
+use Rattle.zn_truth.specs.declared.limits.TheConstants.{MAX_ZONES}
 use Rattle.zn_truth.specs.declared.ZoneInfo.{ZoneInfo}
 use Rattle.zn_truth.specs.declared.ZoneOp.{ZoneOp}
 use Rattle.zn_truth.specs.declared.ZoneOp.TheVariants.{Open as do_open, Close as do_close, Reset as do_reset, Finish as do_finish}
@@ -280,7 +281,7 @@ fits shape kind Offline held = held == 0
 -- What every machine keeps to.
 pub record IsSoundMachine (m : Machine) : Type 0 where
   pub capacity : 0 < m.shape.zone_capacity
-  pub count : length m.zones ≤ 4096
+  pub count : length m.zones ≤ MAX_ZONES
   pub zones : (z : ℕ) → z < length m.zones → IsTrue (fits m.shape (state_at m z).kind (state_at m z).raw (state_at m z).held)
   pub active : 0 < m.shape.max_active → active_in m.zones ≤ m.shape.max_active
   pub opened : 0 < m.shape.max_open → open_in m.zones ≤ m.shape.max_open

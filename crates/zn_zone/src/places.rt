@@ -1,20 +1,12 @@
 // The places among the open and the active zones, and the steps that take them.
 ghost use Rattle.std.specs.Prelude.{◌≡◌, ◌<◌, length, OnOk, OnErr};
-ghost use Rattle.zn_truth.specs.Truth.{is_reached};
 ghost use Rattle.zn_zone.specs.Table.{needs};
 ghost use Rattle.zn_zone.specs.Machine.{state_in, active_in, open_in, first_implicit, with_open_place, no_open_place, with_places, no_places, stepped, unless};
 
 use crate::state::State;
 use crate::table::{Places, Step};
 use crate::{Raw, ZoneError};
-use zn_truth::Shape;
-
-/// A limit of 0 is none.
-fn is_reached(limit: u32, count: usize) -> bool
-    ensures { result ≡ is_reached limit count }
-{
-    limit != 0 && limit as usize <= count
-}
+use zn_truth::{Shape, is_reached};
 
 /// How many zones are active.
 fn count_active(zones: &[State]) -> usize

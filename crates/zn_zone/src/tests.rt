@@ -1,5 +1,3 @@
-ghost use Rattle.std.specs.Prelude.{◌≤◌};
-
 use crate::{Raw, ZoneError, Zones};
 use std::alloc::{AllocError, Global};
 use std::process::Abort;
@@ -12,11 +10,8 @@ const EMPTY: ZoneInfo = ZoneInfo {
     explicit: false,
 };
 
-/// Four empty sequential zones and a conventional one, of which one may be open and two active.
-fn five_zones(alloc: Global, capacity: u32) -> Result<Zones, AllocError>
-    requires least { 2 ≤ capacity }
-    requires most { capacity ≤ 8 }
-{
+/// Four empty sequential zones of two blocks and a conventional one, of which one may be open and two active.
+fn five_zones(alloc: Global) -> Result<Zones, AllocError> {
     let kinds = [
         Kind::Sequential,
         Kind::Sequential,
@@ -26,13 +21,13 @@ fn five_zones(alloc: Global, capacity: u32) -> Result<Zones, AllocError>
     ];
     let whole = ZoneInfo {
         cond: Cond::Good,
-        held: capacity,
+        held: 2,
         explicit: false,
     };
     let info = [EMPTY, EMPTY, EMPTY, EMPTY, whole];
     let shape = Shape {
-        zone_blocks: capacity,
-        zone_capacity: capacity,
+        zone_blocks: 2,
+        zone_capacity: 2,
         max_open: 1,
         max_active: 2,
     };
@@ -75,9 +70,10 @@ fn raw(rt: &impl Abort, zones: &Zones, z: u32) -> Raw {
     zones.raw(ZoneNo(z))
 }
 
+/// Each call with its answer, and what zone 0 is after it.
 #[test]
-fn limits(rt: HostRuntime) -> Result<(), Fail> {
-    let mut zones = five_zones(rt.alloc(), 2)?;
+fn limits_and_conditions(rt: HostRuntime) -> Result<(), Fail> {
+    let mut zones = five_zones(rt.alloc())?;
     let calls = [
         (Call::Write(0, 0, 1), Ok(()), Raw::ImplicitOpen),
         (Call::Write(1, 0, 1), Ok(()), Raw::Closed),
@@ -95,163 +91,33 @@ fn limits(rt: HostRuntime) -> Result<(), Fail> {
         (Call::Manage(1, ZoneOp::Close), Ok(()), Raw::Closed),
         (Call::Write(0, 1, 1), Ok(()), Raw::Full),
         (Call::Write(2, 0, 1), Ok(()), Raw::Full),
+        (Call::Manage(1, ZoneOp::Reset), Ok(()), Raw::Full),
+        (Call::Manage(3, ZoneOp::Open), Ok(()), Raw::Full),
+        (Call::Manage(3, ZoneOp::Finish), Ok(()), Raw::Full),
+        (Call::Turn(2, Cond::ReadOnly), Ok(()), Raw::Full),
+        (Call::Write(2, 1, 1), Err(ZoneError::ReadOnly), Raw::Full),
+        (Call::Turn(1, Cond::Offline), Ok(()), Raw::Full),
+        (
+            Call::Manage(1, ZoneOp::Open),
+            Err(ZoneError::Offline),
+            Raw::Full,
+        ),
+        (Call::Write(0, 0, 1), Err(ZoneError::Unaligned), Raw::Full),
+        (Call::Manage(0, ZoneOp::Reset), Ok(()), Raw::Empty),
     ];
     for (i, (made, want, first)) in calls.into_iter().enumerate() {
         assert_eq!(rt; carry_out(&rt, &mut zones, made), want, "call {i}");
         assert_eq!(rt; raw(&rt, &zones, 0), first, "zone 0 after call {i}");
     }
     let ends = [
-        Raw::Full,
-        Raw::Closed,
-        Raw::ImplicitOpen,
         Raw::Empty,
+        Raw::Offline,
+        Raw::ReadOnly,
+        Raw::Full,
         Raw::NotWp,
     ];
     for (z, want) in ends.into_iter().enumerate() {
         assert_eq!(rt; raw(&rt, &zones, z as u32), want, "zone {z}");
-    }
-    Ok(())
-}
-
-/// A condition of zone 0, the calls that lead there, the block that it is then written at, and what it becomes by
-/// a write of one block, a write up to the capacity, an open, a close, a reset and a finish.
-#[derive(Clone, Copy)]
-struct Row {
-    raw: Raw,
-    calls: [Option<Call>; 2],
-    at: u32,
-    cells: [Result<Raw, ZoneError>; 6],
-}
-
-static ROWS: [Row; 8] = [
-    Row {
-        raw: Raw::Empty,
-        calls: [None, None],
-        at: 0,
-        cells: [
-            Ok(Raw::ImplicitOpen),
-            Ok(Raw::Full),
-            Ok(Raw::ExplicitOpen),
-            Ok(Raw::Empty),
-            Ok(Raw::Empty),
-            Ok(Raw::Full),
-        ],
-    },
-    Row {
-        raw: Raw::ImplicitOpen,
-        calls: [Some(Call::Write(0, 0, 1)), None],
-        at: 1,
-        cells: [
-            Ok(Raw::ImplicitOpen),
-            Ok(Raw::Full),
-            Ok(Raw::ExplicitOpen),
-            Ok(Raw::Closed),
-            Ok(Raw::Empty),
-            Ok(Raw::Full),
-        ],
-    },
-    Row {
-        raw: Raw::ExplicitOpen,
-        calls: [Some(Call::Manage(0, ZoneOp::Open)), None],
-        at: 0,
-        cells: [
-            Ok(Raw::ExplicitOpen),
-            Ok(Raw::Full),
-            Ok(Raw::ExplicitOpen),
-            Ok(Raw::Empty),
-            Ok(Raw::Empty),
-            Ok(Raw::Full),
-        ],
-    },
-    Row {
-        raw: Raw::ExplicitOpen,
-        calls: [
-            Some(Call::Manage(0, ZoneOp::Open)),
-            Some(Call::Write(0, 0, 1)),
-        ],
-        at: 1,
-        cells: [
-            Ok(Raw::ExplicitOpen),
-            Ok(Raw::Full),
-            Ok(Raw::ExplicitOpen),
-            Ok(Raw::Closed),
-            Ok(Raw::Empty),
-            Ok(Raw::Full),
-        ],
-    },
-    Row {
-        raw: Raw::Closed,
-        calls: [
-            Some(Call::Write(0, 0, 1)),
-            Some(Call::Manage(0, ZoneOp::Close)),
-        ],
-        at: 1,
-        cells: [
-            Ok(Raw::ImplicitOpen),
-            Ok(Raw::Full),
-            Ok(Raw::ExplicitOpen),
-            Ok(Raw::Closed),
-            Ok(Raw::Empty),
-            Ok(Raw::Full),
-        ],
-    },
-    Row {
-        raw: Raw::Full,
-        calls: [Some(Call::Manage(0, ZoneOp::Finish)), None],
-        at: 0,
-        cells: [
-            Err(ZoneError::Unaligned),
-            Err(ZoneError::Unaligned),
-            Ok(Raw::Full),
-            Ok(Raw::Full),
-            Ok(Raw::Empty),
-            Ok(Raw::Full),
-        ],
-    },
-    Row {
-        raw: Raw::ReadOnly,
-        calls: [
-            Some(Call::Write(0, 0, 1)),
-            Some(Call::Turn(0, Cond::ReadOnly)),
-        ],
-        at: 1,
-        cells: [Err(ZoneError::ReadOnly); 6],
-    },
-    Row {
-        raw: Raw::Offline,
-        calls: [
-            Some(Call::Write(0, 0, 1)),
-            Some(Call::Turn(0, Cond::Offline)),
-        ],
-        at: 0,
-        cells: [Err(ZoneError::Offline); 6],
-    },
-];
-
-#[test]
-fn table(rt: HostRuntime) -> Result<(), Fail> {
-    for row in ROWS {
-        assert!(rt; row.at < 3);
-        let made = [
-            Call::Write(0, row.at, 1),
-            Call::Write(0, row.at, 3 - row.at),
-            Call::Manage(0, ZoneOp::Open),
-            Call::Manage(0, ZoneOp::Close),
-            Call::Manage(0, ZoneOp::Reset),
-            Call::Manage(0, ZoneOp::Finish),
-        ];
-        for (i, (call, want)) in made.into_iter().zip(row.cells).enumerate() {
-            let mut zones = five_zones(rt.alloc(), 3)?;
-            for first in row.calls.into_iter().flatten() {
-                assert_eq!(rt; carry_out(&rt, &mut zones, first), Ok(()));
-            }
-            assert_eq!(rt; raw(&rt, &zones, 0), row.raw);
-            let got = carry_out(&rt, &mut zones, call).map(|()| raw(&rt, &zones, 0));
-            assert_eq!(rt; got, want, "{:?}, column {i}", row.raw);
-            if want.is_err() {
-                assert_eq!(rt; raw(&rt, &zones, 0), row.raw);
-            }
-        }
     }
     Ok(())
 }

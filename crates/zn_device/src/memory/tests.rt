@@ -1,7 +1,7 @@
 ghost use Rattle.std.specs.Prelude.{◌≡◌, ◌<◌, false, not, length};
 ghost use Rattle.zn_truth.specs.Truth.{room, kind_at};
 ghost use Rattle.zn_truth.specs.World.{geometry_of};
-ghost use Rattle.zn_truth.specs.Lists.{is_answered};
+ghost use Rattle.zn_truth.specs.Obeying.{is_answered};
 
 use crate::{MemDevice, Zoned};
 use std::process::Abort;
@@ -42,8 +42,9 @@ fn is_answered(reply: Result<(), DevError>) -> bool
 
 /// The blocks that a zone has room for.
 fn room_of<D: Zoned>(device: &D, z: u32) -> u32
-    requires { z < length (geometry_of (D.world device.now)).kinds }
-    ensures { result ≡ room (geometry_of (D.world device.now)).shape (kind_at (geometry_of (D.world device.now)) z) }
+    requires { z < length (geometry_of (D.state device.now).world).kinds }
+    ensures { result
+        ≡ room (geometry_of (D.state device.now).world).shape (kind_at (geometry_of (D.state device.now).world) z) }
 {
     match device.kind(ZoneNo(z)) {
         Kind::Conventional => device.shape().zone_blocks,
@@ -52,8 +53,8 @@ fn room_of<D: Zoned>(device: &D, z: u32) -> u32
 }
 
 fn carry_out<D: Zoned>(rt: &impl Abort, device: &mut D, call: Call) -> Result<(), DevError>
-    requires { D.is_spoilt device.old ≡ false }
-    ensures { D.is_spoilt device.new ≡ not (is_answered result) }
+    requires { (D.state device.old).spoilt ≡ false }
+    ensures { (D.state device.new).spoilt ≡ not (is_answered result) }
 {
     match call {
         Call::Write(z, at, byte) => {
@@ -87,8 +88,8 @@ fn carry_out<D: Zoned>(rt: &impl Abort, device: &mut D, call: Call) -> Result<()
 
 /// Carries out the calls, each of which must answer as is said.
 fn drive<D: Zoned>(rt: &impl Abort, device: &mut D, calls: &[(Call, Result<(), DevError>)])
-    requires { D.is_spoilt device.old ≡ false }
-    ensures { D.is_spoilt device.new ≡ false }
+    requires { (D.state device.old).spoilt ≡ false }
+    ensures { (D.state device.new).spoilt ≡ false }
 {
     for (i, (call, expected)) in calls.iter().enumerate() {
         let reply = carry_out(rt, device, *call);

@@ -1,6 +1,6 @@
 use Rattle.std.proofs.Common.{arith}
 use Rattle.zn_zone.specs.Machine.{facts}
-use Rattle.zn_device.specs.Seen.{zones_of}
+use Rattle.zn_device.specs.Stores.{zones_of}
 use Rattle.zn_device.proofs.Places.{stores_kept}
 use Rattle.zn_device.proofs.Stores.{zones-facts, length-zones_of, flush_more, flush_truth}
 use Rattle.zn_device.proofs.commands.flush_all.Goals as goal

@@ -1,7 +1,7 @@
 use Rattle.std.proofs.Common.{◌≡◌, take, drop, map, ◌++◌}
 use Rattle.zn_truth.specs.Orders.{flushed}
 use Rattle.zn_zone.specs.Machine.{facts}
-use Rattle.zn_device.specs.Seen.{zones_of, HasStores}
+use Rattle.zn_device.specs.Stores.{zones_of, HasStores}
 use Rattle.zn_device.proofs.commands.flush_all.Given as goal
 
 -- those before the index are flushed

@@ -1,7 +1,7 @@
 use Rattle.std.proofs.Common.{[], take, length, get_or, arith, refl, ap, subst}
 use Rattle.std.proofs.lemmas.List.{take_all, take_more}
 use Rattle.zn_truth.specs.declared.Kind.TheVariants.{Conventional}
-use Rattle.zn_device.specs.Seen.{AreFresh}
+use Rattle.zn_device.specs.Stores.{AreFresh}
 use Rattle.zn_device.proofs.Begins.{are_fresh_none, are_fresh_more}
 use Rattle.zn_device.proofs.fresh.fresh_stores.Goals as goal
 

@@ -1,5 +1,5 @@
 use Rattle.std.proofs.Common.{take}
-use Rattle.zn_device.specs.Seen.{AreFresh}
+use Rattle.zn_device.specs.Stores.{AreFresh}
 use Rattle.zn_device.proofs.fresh.fresh_stores.Given as goal
 
 -- the zones before the index have their stores

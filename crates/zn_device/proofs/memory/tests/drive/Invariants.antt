@@ -3,4 +3,4 @@ use Rattle.zn_device.proofs.memory.tests.drive.Given as goal
 
 -- the device may take more commands
 abbrev pub invariant-loop-i : goal.invariant-loop-i
-invariant-loop-i g l = g.D.Zoned.is_spoilt l.device ≡ false
+invariant-loop-i g l = (g.D.Zoned.state l.device).spoilt ≡ false

@@ -5,7 +5,7 @@ use Rattle.zn_zone.specs.Facts.{facts_at, info_of}
 use Rattle.zn_zone.specs.Machine.{facts, refusal_in, dev_error}
 use Rattle.zn_device.proofs.Places.{place, found, buffer_holds, read_found}
 use Rattle.zn_device.proofs.Stores.{zones-facts, refused_reply, done_reply, read_bytes}
-use Rattle.zn_device.proofs.commands.read_at.Goals as goal
+use Rattle.zn_device.proofs.commands.read_stored.Goals as goal
 
 pub overflow_cast-out : goal.overflow_cast-out
 overflow_cast-out c = let p = place c.args.zones.now c.args.stores.now _ _ _ c.requires.device c.requires.fits in omega (arith, p.small)

@@ -3,10 +3,10 @@ use Rattle.std.proofs.lemmas.Result.{err_from_is_err_and}
 use Rattle.zn_truth.specs.Orders.{WriteAt}
 use Rattle.zn_zone.specs.Facts.{outline, facts_at, info_of}
 use Rattle.zn_zone.specs.Machine.{facts, refusal_in, dev_error}
-use Rattle.zn_device.specs.Seen.{truth_of}
+use Rattle.zn_device.specs.Stores.{truth_of}
 use Rattle.zn_device.proofs.Places.{place, found, kind_found, held_found, flags_found, stores_after}
 use Rattle.zn_device.proofs.Stores.{zones-facts, refused_reply, refused_truth, done_reply, write_truth, write_found}
-use Rattle.zn_device.proofs.commands.write_at.Goals as goal
+use Rattle.zn_device.proofs.commands.write_stored.Goals as goal
 
 pub kind-kind-requires : goal.kind-kind-requires
 kind-kind-requires c = (place c.args.zones.now c.args.stores.now.items _ _ _ c.requires.device c.requires.fits).zone

@@ -1,5 +1,6 @@
 -- What a device in memory holds, by the facts of its condition machine and what it stores of each zone. (own)
 use Rattle.std.specs.Prelude.{◌≡◌, ℕ, ◌*◌, ◌<◌, true, List, [], ◌∷◌, length, take, slice_index_or}
+use Rattle.zn_truth.specs.declared.limits.TheConstants.{BLOCK_SIZE}
 use Rattle.zn_truth.specs.declared.Kind.{Kind}
 use Rattle.zn_truth.specs.declared.Kind.TheVariants.{Conventional, Sequential}
 use Rattle.zn_truth.specs.declared.Shape.{Shape}
@@ -16,7 +17,7 @@ zone_of kind info store = record {
   kind = kind;
   cond = info.cond;
   held = info.held;
-  bytes = take (4096 * info.held) store.buffer.items;
+  bytes = take (BLOCK_SIZE * info.held) store.buffer.items;
   durable = store.durable;
   unflushed = store.unflushed.items;
   explicit = info.explicit;
@@ -47,7 +48,7 @@ truth_of f stores = record { told = true; shape = f.shape; zones = zones_of f.zo
 
 -- the store has a buffer for all that a zone of this kind has room for
 abbrev pub HasBuffer : Shape → Kind → Store → Type 0
-HasBuffer shape kind store = length store.buffer.items ≡ 4096 * room shape kind
+HasBuffer shape kind store = length store.buffer.items ≡ BLOCK_SIZE * room shape kind
 
 -- each zone has a store, and each store its buffer
 pub record HasStores (f : Facts) (stores : List Store) : Type 0 where

@@ -3,10 +3,10 @@ use Rattle.std.proofs.lemmas.Result.{err_from_is_err_and}
 use Rattle.zn_truth.specs.declared.Kind.TheVariants.{Sequential}
 use Rattle.zn_truth.specs.Orders.{Manage}
 use Rattle.zn_zone.specs.Machine.{facts, refusal_in, dev_error}
-use Rattle.zn_device.specs.Seen.{truth_of}
+use Rattle.zn_device.specs.Stores.{truth_of}
 use Rattle.zn_device.proofs.Places.{managed_place, found, kind_found, stores_after}
 use Rattle.zn_device.proofs.Stores.{zones-facts, refused_reply, refused_truth, done_reply, manage_truth}
-use Rattle.zn_device.proofs.commands.manage_at.Goals as goal
+use Rattle.zn_device.proofs.commands.manage_stored.Goals as goal
 
 pub info-info-requires : goal.info-info-requires
 info-info-requires c = (managed_place c.args.zones.now c.args.stores.now.items _ c.requires.device c.requires.zone).zone
