@@ -1,12 +1,62 @@
--- Laws of decimal numbers as words.
-use Rattle.std.proofs.Common.{◌≡◌, ℕ, ◌+◌, ◌-◌, ◌*◌, ◌/◌, ◌%◌, ◌^◌, ◌<◌, ◌≤◌, Bool, cond, leb, eqb, eq-eqb, ne_eqb, ◌&&◌, List, [], ◌∷◌, ◌++◌, length, get_or, Some, None, refl, ap, sym, ◌∙◌, inl, inr, append_assoc, length-append, arith}
-use Rattle.std.proofs.lemmas.Bool.{and_from, and_parts, le-leb, leb-true, cases_Bool, cases_lt, cond-true, cond-false, eqb-false}
-use Rattle.std.proofs.lemmas.Fmt.{decimal_digit, decimal_step, decimal_by_steps}
-use Rattle.std.proofs.lemmas.List.{append-nil, get_or_append_left}
-use Rattle.std.proofs.lemmas.Option.{same_Some}
+-- Words that are decimal numbers: each number has one, and each is read as its number.
+use Rattle.std.proofs.Common.{◌≡◌, ℕ, ◌+◌, ◌-◌, ◌*◌, ◌^◌, ◌<◌, ◌≤◌, Bool, true, false, cond, leb, eqb, List, [], ◌∷◌, length, get_or, Option, Some, None, refl, ap, sym, ◌∙◌, arith, rules, inl, inr}
 use Rattle.std.specs.Fmt.{decimal}
-use Rattle.zn_base.specs.Decimals.{digits_on, number_in}
+use Rattle.std.specs.List.{list_all}
+use Rattle.std.proofs.lemmas.Bool.{cond-true, cond-false, cases_lt, and_parts, and_from, eq-eqb, ne_eqb, eqb-false, le-leb, leb-true}
+use Rattle.std.proofs.lemmas.Fmt.{decimal_digit, decimal_nonempty, first_decimal, digits_decimal, digits_value-decimal, decimal-digits_value}
+use Rattle.std.proofs.lemmas.Option.{same_Some, none-some}
+use Rattle.std.proofs.lemmas.Str.Parse.{IsNumeralModel, numerals_by_fold}
+use Rattle.zn_base.specs.Decimals.{is_digit, digits_on, number_in}
 
+-- digits alone
+abbrev pub all_digits : List ℕ → Bool
+all_digits bytes = list_all is_digit bytes
+
+-- the number that digits give behind a number
+abbrev pub value_on : ℕ → List ℕ → ℕ
+value_on n [] = n
+value_on n (b ∷ bytes) = value_on (n * 10 + (b - 48)) bytes
+
+pub digits_are : IsNumeralModel (λ ds. all_digits ds ≡ true) (value_on 0)
+digits_are = numerals_by_fold _ (search rules) value_on (search rules)
+
+-- ---- digits behind a number
+
+pub value_on-ge : (n : ℕ) (bytes : List ℕ) → n ≤ value_on n bytes
+value_on-ge n [] = omega arith
+value_on-ge n (b ∷ bytes) = omega (arith, value_on-ge (n * 10 + (b - 48)) bytes)
+
+-- a choice that is not nothing
+pub cond_taken : {A : Type 0} (test : Bool) (o : Option A) (x : A) → cond test o None ≡ Some x → (test ≡ true) × (o ≡ Some x)
+cond_taken true o x is = (refl, is)
+cond_taken false o x is = absurd (none-some x is)
+
+pub cond_passed : {A : Type 0} (test : Bool) (o : Option A) (x : A) → cond test None o ≡ Some x → (test ≡ false) × (o ≡ Some x)
+cond_passed true o x is = absurd (none-some x is)
+cond_passed false o x is = (refl, is)
+
+-- digits whose number is within the limit are read as it
+pub digits_on-within : (max n : ℕ) (bytes : List ℕ) → all_digits bytes ≡ true → value_on n bytes ≤ max → digits_on max n bytes ≡ Some (value_on n bytes)
+digits_on-within max n [] digits within = refl
+digits_on-within max n (b ∷ bytes) digits within =
+    let parts = and_parts (is_digit b) (all_digits bytes) digits in
+    let small = le-leb (n * 10 + (b - 48)) max (omega (arith, value_on-ge (n * 10 + (b - 48)) bytes)) in
+    cond-true _ _ _ (and_from (is_digit b) _ parts.0 small) ∙ digits_on-within max (n * 10 + (b - 48)) bytes parts.1 within
+
+-- what is read as a number is digits of that number
+pub digits_on-some : (max n value : ℕ) (bytes : List ℕ) → n ≤ max → digits_on max n bytes ≡ Some value → (all_digits bytes ≡ true) × (value_on n bytes ≡ value) × (value ≤ max)
+digits_on-some max n value [] within is =
+    let same = same_Some n value is in
+    (refl, same, omega arith)
+digits_on-some max n value (b ∷ bytes) within is =
+    let taken = cond_taken _ (digits_on max (n * 10 + (b - 48)) bytes) value is in
+    let parts = and_parts (is_digit b) (leb (n * 10 + (b - 48)) max) taken.0 in
+    let rest = digits_on-some max (n * 10 + (b - 48)) value bytes (leb-true _ _ parts.1) taken.1 in
+    (and_from (is_digit b) (all_digits bytes) parts.0 rest.0, rest.1, rest.2)
+
+-- ---- no leading zero
+
+-- Without a leading zero a number is its digits.
 pub number_in-empty : (max : ℕ) (word : List ℕ) → length word ≡ 0 → number_in max word ≡ None
 unfolding number_in
 number_in-empty max [] empty = refl
@@ -16,127 +66,43 @@ pub number_in-leading_zero : (max : ℕ) (word : List ℕ) → 1 < length word �
 unfolding number_in
 number_in-leading_zero max [] long zero = absurd (omega arith)
 number_in-leading_zero max (b ∷ []) long zero = absurd (omega arith)
-number_in-leading_zero max (b ∷ c ∷ bytes) long zero = ap (λ t. cond t None (digits_on max 0 (b ∷ c ∷ bytes))) (eq-eqb b 48 zero)
+number_in-leading_zero max (b ∷ c ∷ bytes) long zero = cond-true (eqb b 48) None _ (eq-eqb b 48 zero)
 
-pub number_in-digits : (max : ℕ) (word : List ℕ) → 0 < length word → (1 < length word → get_or word 0 0 ≡ 48 → ⊥) → number_in max word ≡ digits_on max 0 word
+pub number_in-digits : (max : ℕ) (word : List ℕ) → 0 < length word → (get_or word 0 0 ≡ 48 → length word ≡ 1) → number_in max word ≡ digits_on max 0 word
 unfolding number_in
 number_in-digits max [] some plain = absurd (omega arith)
 number_in-digits max (b ∷ []) some plain = refl
-number_in-digits max (b ∷ c ∷ bytes) some plain = ap (λ t. cond t None (digits_on max 0 (b ∷ c ∷ bytes))) (ne_eqb b 48 (plain (omega arith)))
+number_in-digits max (b ∷ c ∷ bytes) some plain =
+    cond-false (eqb b 48) None _ (ne_eqb b 48 (λ e. absurd (omega (arith, plain e))))
 
--- ---- what is read is the decimal digits of the number
-
-abbrev test : ℕ → ℕ → ℕ → Bool
-test max n b = (leb 48 b && leb b 57) && leb (n * 10 + (b - 48)) max
-
--- one digit more, where it is one and the number stays within the limit
-digit_more : (max n b : ℕ) (bytes : List ℕ) → 48 ≤ b → b ≤ 57 → n * 10 + (b - 48) ≤ max → digits_on max n (b ∷ bytes) ≡ digits_on max (n * 10 + (b - 48)) bytes
-digit_more max n b bytes low high fits =
-    cond-true (test max n b) _ _ (and_from _ _ (and_from _ _ (le-leb 48 b low) (le-leb b 57 high)) (le-leb _ _ fits))
-
--- what a digit that was read says
-record DigitRead (max n b : ℕ) (bytes : List ℕ) (result : ℕ) : Type 0 where
-  low : 48 ≤ b
-  high : b ≤ 57
-  fits : n * 10 + (b - 48) ≤ max
-  rest : digits_on max (n * 10 + (b - 48)) bytes ≡ Some result
-
-digit_read : (max n b : ℕ) (bytes : List ℕ) (result : ℕ) → digits_on max n (b ∷ bytes) ≡ Some result → DigitRead max n b bytes result
-digit_read max n b bytes result is =
-    elim (cases_Bool (test max n b)) [
-      | inl passes ↦
-          let parts = and_parts (leb 48 b && leb b 57) (leb (n * 10 + (b - 48)) max) passes in
-          let digit = and_parts (leb 48 b) (leb b 57) parts.0 in
-          record {
-            low = leb-true 48 b digit.0;
-            high = leb-true b 57 digit.1;
-            fits = leb-true _ _ parts.1;
-            rest = sym (cond-true (test max n b) _ _ passes) ∙ is;
-          }
-      | inr fails ↦ let none : None ≡ Some result = sym (cond-false (test max n b) _ _ fails) ∙ is in absurd (cc)
-    ]
-
-digits_on-append : (max n m : ℕ) (xs ys : List ℕ) → digits_on max n xs ≡ Some m → digits_on max n (xs ++ ys) ≡ digits_on max m ys
-digits_on-append max n m [] ys is = ap (λ k. digits_on max k ys) (same_Some _ _ is)
-digits_on-append max n m (x ∷ xs) ys is =
-    let read = digit_read max n x xs m is in
-    digit_more max n x (xs ++ ys) read.low read.high read.fits ∙ digits_on-append max (n * 10 + (x - 48)) m xs ys read.rest
-
--- the decimal digits of a number, as they are read
-record IsRead (n : ℕ) (digits : List ℕ) : Type 0 where
-  some : 0 < length digits
-  first : 0 < n → get_or digits 0 0 ≡ 48 → ⊥
-  short : n ≡ 0 → length digits ≡ 1
-  read : (max : ℕ) → n ≤ max → digits_on max 0 digits ≡ Some n
-
-one_digit : (n : ℕ) → n < 10 → IsRead n ((48 + n) ∷ [])
-one_digit n small = record {
-  some = omega arith;
-  first = λ above is. absurd (omega arith);
-  short = λ _. refl;
-  read = λ max fits.
-      let value : 0 * 10 + (48 + n - 48) ≡ n = omega arith in
-      digit_more max 0 (48 + n) [] (omega arith) (omega arith) (omega arith) ∙ ap Some value;
-}
-
-more_digits : (n : ℕ) (digits : List ℕ) → 10 ≤ n → IsRead (n / 10) digits → IsRead n (digits ++ (48 + n % 10) ∷ [])
-more_digits n digits long before =
-    let last : List ℕ = (48 + n % 10) ∷ [] in
-    record {
-      some = omega (arith, length-append digits last, before.some);
-      first = λ _ is. before.first (omega arith) (sym (get_or_append_left digits last 0 0 before.some) ∙ is);
-      short = λ none. absurd (omega arith);
-      read = λ max fits.
-          let value : n / 10 * 10 + (48 + n % 10 - 48) ≡ n = omega arith in
-          digits_on-append max 0 (n / 10) digits last (before.read max (omega arith))
-          ∙ digit_more max (n / 10) (48 + n % 10) [] (omega arith) (omega arith) (omega arith) ∙ ap Some value;
-    }
-
-pub number_in-decimal : (max n : ℕ) (word : List ℕ) → max < 2 ^ 64 → word ≡ decimal n → n ≤ max → number_in max word ≡ Some n
-number_in-decimal max n word small is fits =
-    let digits = decimal_by_steps IsRead one_digit more_digits n (omega arith) in
-    let plain : 1 < length (decimal n) → get_or (decimal n) 0 0 ≡ 48 → ⊥ =
-    λ long. elim (cases_lt 0 n) [ inl above ↦ digits.first above | inr none ↦ λ _. absurd (let one = digits.short (omega arith) in omega arith) ] in
-    ap (number_in max) is ∙ number_in-digits max (decimal n) digits.some plain ∙ digits.read max fits
-
--- the decimal digits of a number with one digit more
-decimal_more : (m b : ℕ) → 0 < m → 48 ≤ b → b ≤ 57 → m * 10 + (b - 48) < 2 ^ 64 → decimal (m * 10 + (b - 48)) ≡ decimal m ++ b ∷ []
-decimal_more m b above low high small =
-    let n = m * 10 + (b - 48) in
-    let front : n / 10 ≡ m = omega arith in
-    let last : 48 + n % 10 ≡ b = omega arith in
-    decimal_step n (omega arith) small ∙ ap (λ k. decimal k ++ (48 + n % 10) ∷ []) front ∙ ap (λ d. decimal m ++ d ∷ []) last
-
--- digits behind a number above 0
-decimal_on : (max m n : ℕ) (bytes : List ℕ) → max < 2 ^ 64 → 0 < m → m ≤ max → digits_on max m bytes ≡ Some n → (decimal m ++ bytes ≡ decimal n) × (n ≤ max)
-decimal_on max m n [] small above fits is =
-    let same : m ≡ n = same_Some _ _ is in (append-nil (decimal m) ∙ ap decimal same, omega arith)
-decimal_on max m n (b ∷ bytes) small above fits is =
-    let read = digit_read max m b bytes n is in
-    let on = decimal_on max (m * 10 + (b - 48)) n bytes small (omega arith) read.fits read.rest in (
-      sym (append_assoc (decimal m) (b ∷ []) bytes) ∙ ap (λ xs. xs ++ bytes) (sym (decimal_more m b above read.low read.high (omega (arith, read.fits)))) ∙ on.0,
-      on.1,
-    )
-
--- one digit
-decimal_one : (b : ℕ) → 48 ≤ b → b ≤ 57 → b ∷ [] ≡ decimal (0 * 10 + (b - 48))
-decimal_one b low high =
-    let value : 48 + (0 * 10 + (b - 48)) ≡ b = omega arith in
-    sym (decimal_digit (0 * 10 + (b - 48)) (omega arith) ∙ ap (λ d. d ∷ []) value)
-
-pub decimal_from_number_in : (max n : ℕ) (word : List ℕ) → max < 2 ^ 64 → number_in max word ≡ Some n → (word ≡ decimal n) × (n ≤ max)
+-- What is read as a number has no leading zero.
+pub number_in-plain : (max value : ℕ) (word : List ℕ) → number_in max word ≡ Some value → (0 < length word) × (get_or word 0 0 ≡ 48 → length word ≡ 1) × (digits_on max 0 word ≡ Some value)
 unfolding number_in
-decimal_from_number_in max n [] small is = absurd (cc)
-decimal_from_number_in max n (b ∷ []) small is =
-    let read = digit_read max 0 b [] n is in
-    let same : 0 * 10 + (b - 48) ≡ n = same_Some _ _ read.rest in
-    (decimal_one b read.low read.high ∙ ap decimal same, omega (arith, read.fits))
-decimal_from_number_in max n (b ∷ c ∷ bytes) small is =
-    elim (cases_Bool (eqb b 48)) [
-      | inl zero ↦ let none : None ≡ Some n = sym (cond-true (eqb b 48) _ _ zero) ∙ is in absurd (cc)
-      | inr plain ↦
-          let read = digit_read max 0 b (c ∷ bytes) n (sym (cond-false (eqb b 48) _ _ plain) ∙ is) in
-          let other = eqb-false b 48 plain in
-          let on = decimal_on max (0 * 10 + (b - 48)) n (c ∷ bytes) small (omega (arith, read.low, other)) read.fits read.rest in
-          (ap (λ xs. xs ++ c ∷ bytes) (decimal_one b read.low read.high) ∙ on.0, on.1)
-    ]
+number_in-plain max value [] is = absurd (none-some value is)
+number_in-plain max value (b ∷ []) is = (omega arith, λ _. refl, is)
+number_in-plain max value (b ∷ c ∷ bytes) is =
+    let passed = cond_passed (eqb b 48) (digits_on max 0 (b ∷ c ∷ bytes)) value is in
+    (omega arith, λ e. absurd (eqb-false b 48 passed.0 e), passed.1)
+
+-- ---- numbers as words
+
+decimal-plain : (n : ℕ) → n < 2 ^ 64 → get_or (decimal n) 0 0 ≡ 48 → length (decimal n) ≡ 1
+decimal-plain n small zero_first =
+    elim (cases_lt n 10) [ inl below ↦ ap length (decimal_digit n below) | inr above ↦ absurd (omega (arith, first_decimal n (omega arith) small)) ]
+
+-- each number within a limit is read from its digits
+pub number_in-decimal : (max n : ℕ) → max < 2 ^ 64 → n ≤ max → number_in max (decimal n) ≡ Some n
+number_in-decimal max n limit within =
+    let small : n < 2 ^ 64 = omega arith in
+    let value = digits_value-decimal digits_are n small in
+    number_in-digits max (decimal n) (decimal_nonempty n small) (decimal-plain n small)
+    ∙ digits_on-within max 0 (decimal n) (digits_decimal digits_are n small) (omega (arith, value))
+    ∙ ap Some value
+
+-- and from no other word
+pub decimal-number_in : (max n : ℕ) (word : List ℕ) → max < 2 ^ 64 → number_in max word ≡ Some n → (word ≡ decimal n) × (n ≤ max)
+decimal-number_in max n word limit is =
+    let plain = number_in-plain max n word is in
+    let read = digits_on-some max 0 n word (omega arith) plain.2 in
+    let same = decimal-digits_value digits_are word read.0 plain.0 plain.1 (omega (arith, read.1)) in
+    (sym same ∙ ap decimal read.1, read.2)

@@ -4,7 +4,8 @@ use Rattle.std.proofs.lemmas.List.{append-nil, take_at, take-append-drop, drop-d
 use Rattle.std.proofs.lemmas.Option.{same_Some}
 use Rattle.std.proofs.Math.Seq.{take-add}
 use Rattle.zn_base.specs.Causes.{Rose}
-use Rattle.zn_base.specs.Told.{told_and, and_told, Grew, Gave, IsFront, GrewToward, IsAtEnd, Writes}
+use Rattle.zn_base.specs.States.{SinkState, Writes}
+use Rattle.zn_base.specs.Told.{told_and, and_told, Grew, Gave, IsFront, GrewToward, IsAtEnd}
 
 pub told_and-append : (told : Option (List ℕ)) (a b : List ℕ) → told_and (told_and told a) b ≡ told_and told (a ++ b)
 told_and-append None a b = refl
@@ -40,8 +41,6 @@ grew_then old mid new a b first then = then ∙ ap (λ told. told_and told b) fi
 pub grew_toward : (old mid new : Option (List ℕ)) (a b : List ℕ) → Grew old mid a → GrewToward mid new b → GrewToward old new (a ++ b)
 grew_toward old mid new a b first then = (a ++ then.0, (then.1.0, ap (λ xs. a ++ xs) then.1.1 ∙ sym (append_assoc a then.0 then.1.0)), grew_then old mid new a then.0 first then.2)
 
-pub ruleset toldlaws = (told_and-append, told_and-nil)
-
 -- a write of n more bytes from a place on, behind the bytes before that place
 pub grown_on : (bytes : List ℕ) (old mid new : Option (List ℕ)) (at n : ℕ) → at ≤ length bytes → Grew old mid (take at bytes) → Grew mid new (take n (take (length bytes - at) (drop at bytes))) → Grew old new (take (at + n) bytes)
 grown_on bytes old mid new at n within before more =
@@ -50,24 +49,24 @@ grown_on bytes old mid new at n within before more =
     ∙ ap (told_and old) (ap (λ rest. take at bytes ++ take n rest) (take_rest bytes at) ∙ sym (take-add at n bytes))
 
 -- one writer after another
-pub writes_then : {T U E F : Type 0} {told0 told told' : Option (List ℕ)} {before mid now : ℕ} {x : T} {a b : List ℕ} {r : Result U F} → Writes {T = T} {E = E} told0 told before mid (Ok x) a → Writes told told' mid now r b → Writes told0 told' before now r (a ++ b)
-writes_then {told0 = told0} {told = told} {told' = told'} {a = a} {b = b} {r = Ok y} first then = record {
-  all = grew_then told0 told told' a b first.all then.all;
+pub writes_then : {T U E F : Type 0} {old mid new : SinkState} {x : T} {a b : List ℕ} {r : Result U F} → Writes {T = T} {E = E} (Ok x) a old mid → Writes r b mid new → Writes r (a ++ b) old new
+writes_then {old = old} {mid = mid} {new = new} {a = a} {b = b} {r = Ok y} first then = record {
+  all = grew_then old.written mid.written new.written a b first.all then.all;
   front = then.front;
   cause = record { later = omega (arith, first.cause.later, then.cause.later); failed = then.cause.failed; kept = then.cause.kept ∙ first.cause.kept };
 }
-writes_then {told0 = told0} {told = told} {told' = told'} {now = now} {a = a} {b = b} {r = Err e} first then = record {
+writes_then {old = old} {mid = mid} {new = new} {a = a} {b = b} {r = Err e} first then = record {
   all = then.all;
-  front = grew_toward told0 told told' a b first.all then.front;
-  cause = record { later = omega (arith, first.cause.later, then.cause.later); failed = let R : ℕ → Type 0 = λ n. Rose n now in subst R first.cause.kept then.cause.failed; kept = then.cause.kept };
+  front = grew_toward old.written mid.written new.written a b first.all then.front;
+  cause = record { later = omega (arith, first.cause.later, then.cause.later); failed = let R : ℕ → Type 0 = λ n. Rose n new.faults in subst R first.cause.kept then.cause.failed; kept = then.cause.kept };
 }
 
 -- a writer that failed was to write more
-pub writes_cut : {T U E F : Type 0} {told0 told : Option (List ℕ)} {before now : ℕ} {a : List ℕ} {e : E} (b : List ℕ) (r : Result U F) → IsErr r → Writes {T = T} {E = E} told0 told before now (Err e) a → Writes told0 told before now r (a ++ b)
+pub writes_cut : {T U E F : Type 0} {old new : SinkState} {a : List ℕ} {e : E} (b : List ℕ) (r : Result U F) → IsErr r → Writes {T = T} {E = E} (Err e) a old new → Writes r (a ++ b) old new
 writes_cut b (Ok y) fails first = absurd (cc)
-writes_cut {told0 = told0} {told = told} {a = a} b (Err f) fails first = record {
+writes_cut {old = old} {new = new} {a = a} b (Err f) fails first = record {
   all = first.all;
-  front = toward_more told0 told a b first.front;
+  front = toward_more old.written new.written a b first.front;
   cause = record { later = first.cause.later; failed = first.cause.failed; kept = first.cause.kept };
 }
 

@@ -1,6 +1,7 @@
 -- A source over a reader and a sink over a writer, as their callers see them. (own)
-use Rattle.std.specs.Prelude.{◌≡◌, ℕ, List, [], ◌++◌, ◌∷◌, ◌⊎◌, take, Option, Result, IfOk, OnErr}
+use Rattle.std.specs.Prelude.{◌≡◌, ℕ, List, [], ◌++◌, ◌∷◌, ◌⊎◌, take, Option, None, Result, IfOk, OnErr}
 use Rattle.std.specs.Io.KnownBytes.{Appends}
+use Rattle.zn_base.specs.States.{SourceState, SinkState}
 use Rattle.zn_base.specs.Told.{told_and}
 
 -- a source: its reader, and how many reads failed
@@ -14,6 +15,14 @@ pub record WriterState (W : Type 0) : Type 0 where
   pub gathered : List ℕ
   pub faults : ℕ
 
+-- its count of faults alone is told
+abbrev pub untold_source : {R : Type 0} → ReaderState R → SourceState
+untold_source s = record { left = None; faults = s.faults }
+
+-- its count of faults alone is told
+abbrev pub untold_sink : {W : Type 0} → WriterState W → SinkState
+untold_sink s = record { written = None; faults = s.faults }
+
 -- the last byte is a newline
 abbrev pub EndsLine : List ℕ → Type 0
 EndsLine bytes = (front : List ℕ) × (bytes ≡ front ++ 10 ∷ [])
@@ -21,7 +30,8 @@ EndsLine bytes = (front : List ℕ) × (bytes ≡ front ++ 10 ∷ [])
 -- What a write to a sink did. The bytes that it took are gathered or written out, behind those that were gathered
 -- before, and written out if they end a line. The contents are those of the writer, where it tells them. A write
 -- that failed has lost what was gathered.
-pub record Takes {E : Type 0} (old new : Option (List ℕ)) (gathered left : List ℕ) (result : Result ℕ E) (piece : List ℕ) : Type 0 where
+pub record Takes {E : Type 0} (old new : Option (List ℕ)) (gathered left : List ℕ)
+    (result : Result ℕ E) (piece : List ℕ) : Type 0 where
   pub bytes : IfOk result (λ n. Appends (told_and old gathered) (told_and new left) (take n piece))
   pub held : IfOk result (λ n. (left ≡ []) ⊎ (left ≡ gathered ++ take n piece))
   pub sent : IfOk result (λ n. EndsLine (take n piece) → left ≡ [])

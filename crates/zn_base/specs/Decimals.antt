@@ -8,7 +8,8 @@ is_digit b = nat_le 48 b && nat_le b 57
 -- digits behind a number, as long as it is at most max
 abbrev pub digits_on : ℕ → ℕ → List ℕ → Option ℕ
 digits_on max n [] = Some n
-digits_on max n (b ∷ bytes) = if is_digit b && nat_le (n * 10 + (b - 48)) max then digits_on max (n * 10 + (b - 48)) bytes else None
+digits_on max n (b ∷ bytes) =
+    if is_digit b && nat_le (n * 10 + (b - 48)) max then digits_on max (n * 10 + (b - 48)) bytes else None
 
 -- a decimal number of at most max, without a leading zero
 unfoldable pub number_in : ℕ → List ℕ → Option ℕ

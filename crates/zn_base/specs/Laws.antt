@@ -11,4 +11,5 @@ pub record RunsAreFewest : Type 0 where
 
 -- the words that are read as a number are its decimal digits, where it isn't above the limit
 abbrev pub NumbersAreDecimal : Type 0
-NumbersAreDecimal = (max n : ℕ) (word : List ℕ) → max < 2 ^ 64 → (number_in max word ≡ Some n) ↔ ((word ≡ decimal n) × (n ≤ max))
+NumbersAreDecimal = (max n : ℕ) (word : List ℕ) → max < 2 ^ 64
+    → (number_in max word ≡ Some n) ↔ ((word ≡ decimal n) × (n ≤ max))

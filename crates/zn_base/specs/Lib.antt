@@ -5,5 +5,6 @@ pub mod Laws
 pub mod Memory
 pub mod Parts
 pub mod Runs
+pub mod States
 pub mod Texts
 pub mod Told

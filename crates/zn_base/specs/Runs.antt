@@ -16,7 +16,9 @@ bytes_of runs = flat_map (λ run. replicate run.count run.byte) runs
 -- one more byte in front
 abbrev pub onto_run : ℕ → List Run → List Run
 onto_run b [] = record { byte = b; count = 1 } ∷ []
-onto_run b (run ∷ runs) = if b == run.byte then record { byte = b; count = run.count + 1 } ∷ runs else record { byte = b; count = 1 } ∷ run ∷ runs
+onto_run b (run ∷ runs) =
+    if b == run.byte then record { byte = b; count = run.count + 1 } ∷ runs
+    else record { byte = b; count = 1 } ∷ run ∷ runs
 
 -- the maximal runs of equal bytes
 unfoldable pub runs_of : List ℕ → List Run

@@ -1,7 +1,6 @@
 -- What calls take from a source and add to a sink, where the bytes are told (Some) and where they aren't (None). (own)
-use Rattle.std.specs.Prelude.{◌≡◌, ℕ, List, [], ◌++◌, take, Option, Some, Result, MatchResult, OnOk, OnErr}
+use Rattle.std.specs.Prelude.{◌≡◌, ℕ, List, [], ◌++◌, take, Option, Some, Result, MatchResult}
 use Rattle.std.specs.Option.{option_map}
-use Rattle.zn_base.specs.Causes.{HasCause}
 
 -- the told bytes, and then these
 abbrev pub told_and : Option (List ℕ) → List ℕ → Option (List ℕ)
@@ -37,10 +36,5 @@ WriteGrew old new result piece = MatchResult result (λ n. Grew old new (take n 
 
 -- what a read did: at Ok it gave so many bytes, none only at the end, and at Err none
 abbrev pub ReadGave : {E : Type 0} → Option (List ℕ) → Option (List ℕ) → Result ℕ E → List ℕ → Type 0
-ReadGave old new result buf = MatchResult result (λ n. Gave old new (take n buf) × (n ≡ 0 → IsAtEnd new)) (λ _. new ≡ old)
-
--- A writer that was to add these bytes did so at Ok, and at Err added a front of them and counted a fault.
-pub record Writes {T E : Type 0} (old new : Option (List ℕ)) (before now : ℕ) (result : Result T E) (due : List ℕ) : Type 0 where
-  pub all : OnOk result (Grew old new due)
-  pub front : OnErr result (GrewToward old new due)
-  pub cause : HasCause before now result
+ReadGave old new result buf =
+    MatchResult result (λ n. Gave old new (take n buf) × (n ≡ 0 → IsAtEnd new)) (λ _. new ≡ old)

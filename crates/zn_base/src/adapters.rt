@@ -1,10 +1,11 @@
 // A source and a sink over a reader and a writer of std. They tell no bytes of their own.
-ghost use Rattle.std.specs.Prelude.{◌≡◌, ◌↔◌, ◌<◌, ◌≤◌, ◌+◌, ◌-◌, min, [], ◌++◌, take, None, IfOk, OnOk, IsTrue, length, vec_len};
+ghost use Rattle.std.specs.Prelude.{◌≡◌, ◌↔◌, ◌<◌, ◌≤◌, ◌+◌, ◌-◌, min};
+ghost use Rattle.std.specs.Prelude.{[], ◌++◌, take, IfOk, OnOk, IsTrue, length, vec_len};
 ghost use Rattle.std.specs.Io.{ReadsAtMost, WritesAtMost};
 ghost use Rattle.std.specs.Io.KnownBytes.{Appends, ReadConsumes};
-ghost use Rattle.zn_base.specs.Adapters.{EndsLine, Takes};
+ghost use Rattle.zn_base.specs.Adapters.{EndsLine, Takes, untold_source, untold_sink};
 ghost use Rattle.zn_base.specs.Causes.{HasCause};
-ghost use Rattle.zn_base.specs.Told.{ReadGave, WriteGrew};
+ghost use Rattle.zn_base.specs.States.{WasRead, WasWritten};
 
 use crate::{ReadFault, Sink, Source, WriteFault};
 use std::alloc::{AllocError, Global};
@@ -53,16 +54,13 @@ fn read_some<R: Read>(reader: &mut R, buf: &mut [u8]) -> Result<usize, ReadFault
 }
 
 impl<R: Read> Source for ReaderSource<R> {
-    ghost left = { λ _. None };
-
-    ghost faults = { λ s. s.faults };
+    ghost state = { untold_source };
 
     /// Gives what the reader gives, where that tells its bytes.
     fn read(&mut self, buf: &mut [u8]) -> Result<usize, ReadFault>
         requires { 0 < length buf.old }
         ensures bound { ReadsAtMost result buf.new }
-        ensures bytes { ReadGave None None result buf.new }
-        ensures cause { HasCause self.old.faults self.new.faults result }
+        ensures done { WasRead result buf.new (untold_source self.old) (untold_source self.new) }
         ensures reader { ReadConsumes (R.remaining self.old.reader) (R.remaining self.new.reader) result buf.new }
     {
         let result = read_some(&mut self.reader, buf);
@@ -117,7 +115,8 @@ impl<W: Write + Drop> WriterSink<W> {
     pub fn flush(&mut self) -> Result<(), WriteFault>
         ensures cause { HasCause self.old.faults self.new.faults result }
         ensures sent { self.new.gathered ≡ [] }
-        ensures bytes { OnOk result (Appends (W.contents self.old.writer) (W.contents self.new.writer) self.old.gathered) }
+        ensures bytes { OnOk result
+            (Appends (W.contents self.old.writer) (W.contents self.new.writer) self.old.gathered) }
     {
         let end = self.len;
         self.len = 0;
@@ -156,15 +155,12 @@ fn ends_line(bytes: &[u8]) -> bool
 }
 
 impl<W: Write> Sink for WriterSink<W> {
-    ghost written = { λ _. None };
-
-    ghost faults = { λ s. s.faults };
+    ghost state = { untold_sink };
 
     fn write(&mut self, piece: &[u8]) -> Result<usize, WriteFault>
         ensures bound { WritesAtMost result piece.now }
         ensures some { IfOk result (λ n. 0 < length piece.now → 0 < n) }
-        ensures bytes { WriteGrew None None result piece.now }
-        ensures cause { HasCause self.old.faults self.new.faults result }
+        ensures done { WasWritten result piece.now (untold_sink self.old) (untold_sink self.new) }
         ensures takes { Takes (W.contents self.old.writer) (W.contents self.new.writer)
             self.old.gathered self.new.gathered result piece.now }
     {

@@ -1,10 +1,12 @@
 // Decimal numbers as words.
-ghost use Rattle.std.specs.Prelude.{◌≡◌, ◌+◌, ◌-◌, ◌*◌, ◌<◌, ◌&&◌, ◌↔◌, IsTrue, length, slice_index, nat_le, if◌then◌else◌};
+ghost use Rattle.std.specs.Prelude.{◌≡◌, ◌+◌, ◌-◌, ◌*◌, ◌<◌, ◌&&◌, ◌↔◌};
+ghost use Rattle.std.specs.Prelude.{IsTrue, length, slice_index, nat_le, if◌then◌else◌};
 ghost use Rattle.zn_base.specs.Decimals.{is_digit, digits_on, number_in};
 
 /// The number with one more digit behind it, if that is one and the number is then at most `max`.
 fn with_digit(number: u64, byte: u8, max: u64) -> Option<u64>
-    ensures { result ≡ (if is_digit byte && nat_le (number * 10 + (byte - 48)) max then Some (number * 10 + (byte - 48)) else None) }
+    ensures { let longer = number * 10 + (byte - 48) in
+        result ≡ (if is_digit byte && nat_le longer max then Some longer else None) }
 {
     if !byte.is_ascii_digit() {
         return None;

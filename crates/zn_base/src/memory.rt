@@ -1,9 +1,8 @@
 // A source and a sink in memory, whose calls fail by a list.
-ghost use Rattle.std.specs.Prelude.{◌≡◌, ◌<◌, [], length, Some, IfOk};
+ghost use Rattle.std.specs.Prelude.{◌≡◌, ◌<◌, [], length, IfOk};
 ghost use Rattle.std.specs.Io.{ReadsAtMost, WritesAtMost};
-ghost use Rattle.zn_base.specs.Causes.{HasCause};
-ghost use Rattle.zn_base.specs.Told.{ReadGave, WriteGrew};
-ghost use Rattle.zn_base.specs.Memory.{MemReads, MemWrites};
+ghost use Rattle.zn_base.specs.Memory.{MemReads, MemWrites, source_state, sink_state};
+ghost use Rattle.zn_base.specs.States.{WasRead, WasWritten};
 
 use crate::{ReadFault, Sink, Source, WriteFault};
 use std::alloc::{AllocError, Global};
@@ -21,11 +20,16 @@ pub struct MemSource {
 
 impl Model for MemSource {
     ghost use Rattle.std.specs.Prelude.{◌≤◌, vec_len, drop};
-    ghost use Rattle.zn_base.specs.Memory.{SourceState};
+    ghost use Rattle.zn_base.specs.Memory.{MemSourceState};
 
-    ghost Value = { SourceState };
+    ghost Value = { MemSourceState };
 
-    ghost view = { λ s. record { left = drop s.at s.bytes.items; fails = s.fails.items; calls = s.calls; faults = s.faults } };
+    ghost view = { λ s. record {
+      left = drop s.at s.bytes.items;
+      fails = s.fails.items;
+      calls = s.calls;
+      faults = s.faults;
+    } };
 
     ghost invariant = { λ s. s.at ≤ vec_len s.bytes };
 }
@@ -45,15 +49,12 @@ impl MemSource {
 }
 
 impl Source for MemSource {
-    ghost left = { λ s. Some s.left };
-
-    ghost faults = { λ s. s.faults };
+    ghost state = { source_state };
 
     fn read(&mut self, buf: &mut [u8]) -> Result<usize, ReadFault>
         requires { 0 < length buf.old }
         ensures bound { ReadsAtMost result buf.new }
-        ensures bytes { ReadGave (Some self.old.left) (Some self.new.left) result buf.new }
-        ensures cause { HasCause self.old.faults self.new.faults result }
+        ensures done { WasRead result buf.new (source_state self.old) (source_state self.new) }
         ensures exact { MemReads self.old self.new buf.new result }
     {
         self.calls = self.calls.saturating_add(1);
@@ -86,18 +87,25 @@ pub struct MemSink {
 
 impl Model for MemSink {
     ghost use Rattle.std.specs.Prelude.{◌≤◌, ◌-◌, vec_len, take};
-    ghost use Rattle.zn_base.specs.Memory.{SinkState};
+    ghost use Rattle.zn_base.specs.Memory.{MemSinkState};
 
-    ghost Value = { SinkState };
+    ghost Value = { MemSinkState };
 
-    ghost view = { λ s. record { bytes = take s.len s.buffer.items; room = vec_len s.buffer - s.len; fails = s.fails.items; calls = s.calls; faults = s.faults } };
+    ghost view = { λ s. record {
+      bytes = take s.len s.buffer.items;
+      room = vec_len s.buffer - s.len;
+      fails = s.fails.items;
+      calls = s.calls;
+      faults = s.faults;
+    } };
 
     ghost invariant = { λ s. s.len ≤ vec_len s.buffer };
 }
 
 impl MemSink {
     pub fn new(alloc: Global, room: usize, fails: Vec<u64>) -> Result<Self, AllocError>
-        ensures { IfOk result (λ s. s ≡ record { bytes = []; room = room; fails = fails.items; calls = 0; faults = 0 }) }
+        ensures { IfOk result (λ s.
+            s ≡ record { bytes = []; room = room; fails = fails.items; calls = 0; faults = 0 }) }
     {
         Ok(MemSink {
             buffer: vec![in alloc; 0; room]?,
@@ -117,15 +125,12 @@ impl MemSink {
 }
 
 impl Sink for MemSink {
-    ghost written = { λ s. Some s.bytes };
-
-    ghost faults = { λ s. s.faults };
+    ghost state = { sink_state };
 
     fn write(&mut self, piece: &[u8]) -> Result<usize, WriteFault>
         ensures bound { WritesAtMost result piece.now }
         ensures some { IfOk result (λ n. 0 < length piece.now → 0 < n) }
-        ensures bytes { WriteGrew (Some self.old.bytes) (Some self.new.bytes) result piece.now }
-        ensures cause { HasCause self.old.faults self.new.faults result }
+        ensures done { WasWritten result piece.now (sink_state self.old) (sink_state self.new) }
         ensures exact { MemWrites self.old self.new piece.now result }
     {
         self.calls = self.calls.saturating_add(1);

@@ -1,7 +1,8 @@
 // Bytes that are written as runs of equal bytes.
-ghost use Rattle.std.specs.Prelude.{◌≡◌, ◌≢◌, ◌==◌, ℕ, ◌+◌, ◌<◌, ◌≤◌, ◌++◌, [], length, slice_index, codes, if◌then◌else◌};
+ghost use Rattle.std.specs.Prelude.{◌≡◌, ◌≢◌, ◌==◌, ℕ, ◌+◌, ◌<◌, ◌≤◌};
+ghost use Rattle.std.specs.Prelude.{◌++◌, [], length, slice_index, codes, if◌then◌else◌};
 ghost use Rattle.std.specs.List.{prefix_len};
-ghost use Rattle.zn_base.specs.Told.{Writes};
+ghost use Rattle.zn_base.specs.States.{Writes};
 ghost use Rattle.zn_base.specs.Runs.{run_text, data_text};
 
 use crate::texts::{Part, write_parts};
@@ -10,13 +11,13 @@ use std::simd::prelude::*;
 
 const LANES: usize = 32;
 
-/// How many of the 32 bytes from a place on come before the first other one.
+/// How many of the `LANES` bytes from a place on come before the first other one.
 #[inline(always)]
 fn equal_lanes(bytes: &[u8], at: usize, byte: u8) -> usize
-    requires { at + 32 ≤ length bytes.now }
-    ensures within { result ≤ 32 }
+    requires { at + LANES ≤ length bytes.now }
+    ensures within { result ≤ LANES }
     ensures equal { (k : ℕ) → at ≤ k → k < at + result → slice_index bytes.now k ≡ byte }
-    ensures other { result < 32 → slice_index bytes.now (at + result) ≢ byte }
+    ensures other { result < LANES → slice_index bytes.now (at + result) ≢ byte }
 {
     let others = u8x32::from_slice(&bytes[at..])
         .simd_ne(u8x32::splat(byte))
@@ -53,8 +54,8 @@ fn write_run<K: Sink>(
     byte: u8,
     count: usize,
 ) -> Result<(), WriteFault>
-    ensures { Writes (K.written sink.old) (K.written sink.new) (K.faults sink.old) (K.faults sink.new) result
-        ((if is_first then [] else codes "+") ++ run_text (record { byte = byte; count = count })) }
+    ensures { Writes result ((if is_first then [] else codes "+") ++ run_text (record { byte = byte; count = count }))
+        (K.state sink.old) (K.state sink.new) }
 {
     let joint: &[u8] = if is_first { b"" } else { b"+" };
     write_parts(
@@ -70,8 +71,7 @@ fn write_run<K: Sink>(
 
 /// Writes bytes as runs, each as long as it may be: `61*2+62*1` for two bytes of 0x61 and one of 0x62.
 pub fn write_runs<K: Sink>(sink: &mut K, bytes: &[u8]) -> Result<(), WriteFault>
-    ensures { Writes (K.written sink.old) (K.written sink.new)
-        (K.faults sink.old) (K.faults sink.new) result (data_text bytes.now) }
+    ensures { Writes result (data_text bytes.now) (K.state sink.old) (K.state sink.new) }
 {
     let mut at = 0;
     while at < bytes.len() {

@@ -1,7 +1,7 @@
 // Texts that are written whole.
 ghost use Rattle.std.specs.Prelude.{◌≡◌, ◌<◌};
 ghost use Rattle.std.specs.Fmt.{decimal};
-ghost use Rattle.zn_base.specs.Told.{Writes};
+ghost use Rattle.zn_base.specs.States.{Writes};
 ghost use Rattle.zn_base.specs.Parts.{part_text, text_of};
 ghost use Rattle.zn_base.specs.Runs.{hex, hex_digit};
 
@@ -10,8 +10,7 @@ use itoa::Buffer;
 
 /// Writes all of the bytes, or a front of them before a fault.
 pub fn write_all<K: Sink>(sink: &mut K, bytes: &[u8]) -> Result<(), WriteFault>
-    ensures { Writes (K.written sink.old) (K.written sink.new)
-        (K.faults sink.old) (K.faults sink.new) result bytes.now }
+    ensures { Writes result bytes.now (K.state sink.old) (K.state sink.new) }
 {
     let mut at = 0;
     while at < bytes.len() {
@@ -25,8 +24,7 @@ pub fn write_all<K: Sink>(sink: &mut K, bytes: &[u8]) -> Result<(), WriteFault>
 
 /// Writes a number in decimal digits.
 pub fn write_number<K: Sink>(sink: &mut K, number: u64) -> Result<(), WriteFault>
-    ensures { Writes (K.written sink.old) (K.written sink.new)
-        (K.faults sink.old) (K.faults sink.new) result (decimal number) }
+    ensures { Writes result (decimal number) (K.state sink.old) (K.state sink.new) }
 {
     let mut buffer = Buffer::new();
     write_all(sink, buffer.format(number).as_bytes())
@@ -40,8 +38,7 @@ fn hex_digit(n: u8) -> u8
 }
 
 fn write_hex<K: Sink>(sink: &mut K, byte: u8) -> Result<(), WriteFault>
-    ensures { Writes (K.written sink.old) (K.written sink.new)
-        (K.faults sink.old) (K.faults sink.new) result (hex byte) }
+    ensures { Writes result (hex byte) (K.state sink.old) (K.state sink.new) }
 {
     write_all(sink, &[hex_digit(byte / 16), hex_digit(byte % 16)])
 }
@@ -58,8 +55,7 @@ pub enum Part<'a> {
 }
 
 fn write_part<K: Sink>(sink: &mut K, part: &Part<'_>) -> Result<(), WriteFault>
-    ensures { Writes (K.written sink.old) (K.written sink.new)
-        (K.faults sink.old) (K.faults sink.new) result (part_text part.now) }
+    ensures { Writes result (part_text part.now) (K.state sink.old) (K.state sink.new) }
 {
     match part {
         Part::Text(text) => write_all(sink, text),
@@ -70,8 +66,7 @@ fn write_part<K: Sink>(sink: &mut K, part: &Part<'_>) -> Result<(), WriteFault>
 
 /// Writes the parts of a text, one after another.
 pub fn write_parts<K: Sink>(sink: &mut K, parts: &[Part<'_>]) -> Result<(), WriteFault>
-    ensures { Writes (K.written sink.old) (K.written sink.new)
-        (K.faults sink.old) (K.faults sink.new) result (text_of parts.now) }
+    ensures { Writes result (text_of parts.now) (K.state sink.old) (K.state sink.new) }
 {
     for part in parts {
         match write_part(sink, part) {

@@ -1,5 +1,5 @@
-use Rattle.std.proofs.Common.{◌∙◌, arith, sym}
-use Rattle.std.proofs.lemmas.Bool.{both_ways}
+use Rattle.std.proofs.Common.{◌∙◌, ◌<◌, arith, sym, length, inl, inr}
+use Rattle.std.proofs.lemmas.Bool.{both_ways, cases_lt}
 use Rattle.std.proofs.lemmas.Grind.{common_steps}
 use Rattle.zn_base.proofs.DecimalLaws.{number_in-empty, number_in-leading_zero, number_in-digits}
 use Rattle.zn_base.proofs.decimals.parse_number.Goals.{then-is_empty-via-then-is_empty, then-is_empty-via-else-is_empty+then-has_leading_zero}
@@ -16,5 +16,9 @@ returns-then-is_empty c =
 
 pub returns : goal.returns
 returns c =
-    c.digits.ensures ∙ sym (number_in-digits c.args.max c.args.word.now (grind (arith, common_steps))
-    (λ long zero. both_ways _ c.if-has_leading_zero.false (c.has_leading_zero.ensures.1 (long, zero))))
+    let some : 0 < length c.args.word.now = grind (arith, common_steps) in
+    c.digits.ensures ∙ sym (number_in-digits c.args.max c.args.word.now some
+    (λ zero. elim (cases_lt 1 (length c.args.word.now)) [
+      | inl long ↦ absurd (both_ways _ c.if-has_leading_zero.false (c.has_leading_zero.ensures.1 (long, zero)))
+      | inr short ↦ omega (arith, some)
+    ]))

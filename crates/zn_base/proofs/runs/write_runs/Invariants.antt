@@ -6,8 +6,8 @@ use Rattle.zn_base.proofs.runs.write_runs.Given as goal
 abbrev pub invariant-loop-at : goal.invariant-loop-at
 invariant-loop-at g l = record {
   within : l.at ≤ length l.bytes;
-  so_far : RunsSoFar (g.K.Sink.written l.fn.sink) (g.K.Sink.written l.sink) l.bytes l.at;
-  kept : g.K.Sink.faults l.sink ≡ g.K.Sink.faults l.fn.sink;
+  so_far : RunsSoFar (g.K.Sink.state l.fn.sink).written (g.K.Sink.state l.sink).written l.bytes l.at;
+  kept : (g.K.Sink.state l.sink).faults ≡ (g.K.Sink.state l.fn.sink).faults;
 }
 
 abbrev pub decreases-loop-at : goal.decreases-loop-at

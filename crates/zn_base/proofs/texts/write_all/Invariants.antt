@@ -6,8 +6,8 @@ use Rattle.zn_base.proofs.texts.write_all.Given as goal
 abbrev pub invariant-loop-at : goal.invariant-loop-at
 invariant-loop-at g l = record {
   within : l.at ≤ length l.bytes;
-  grew : Grew (g.K.Sink.written l.fn.sink) (g.K.Sink.written l.sink) (take l.at l.bytes);
-  kept : g.K.Sink.faults l.sink ≡ g.K.Sink.faults l.fn.sink;
+  grew : Grew (g.K.Sink.state l.fn.sink).written (g.K.Sink.state l.sink).written (take l.at l.bytes);
+  kept : (g.K.Sink.state l.sink).faults ≡ (g.K.Sink.state l.fn.sink).faults;
 }
 
 abbrev pub decreases-loop-at : goal.decreases-loop-at
