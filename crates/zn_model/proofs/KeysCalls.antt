@@ -1,14 +1,15 @@
 -- The calls on a live handle that write, read, truncate and sync, without keys.
-use Rattle.std.proofs.Common.{◌≡◌, ℕ, true, false, List, length, Option, Some, None, Ok, Err, refl, ap, ◌∙◌}
+use Rattle.std.proofs.Common.{◌≡◌, ℕ, ◌-◌, true, false, List, length, Option, Some, None, Ok, Err, refl, ap, ◌∙◌}
 use Rattle.std.specs.Prelude.{option_map}
 use Rattle.zn_truth.specs.Orders.{Reply, FlushAll}
-use Rattle.zn_truth.specs.Lists.{issue_all}
+use Rattle.zn_truth.specs.OrderLists.{issue_all}
 use Rattle.zn_truth.specs.World.{issue}
 use Rattle.zn_model.specs.declared.handles.Handle.{Handle}
-use Rattle.zn_model.specs.Table.{Live, Volume, Mounted, file_at, shown_at, live_at}
-use Rattle.zn_model.specs.Writing.{check_write, write_orders, after_write, write_now, write_by, write_call}
-use Rattle.zn_model.specs.Reading.{check_read, read_end, read_orders, read_bytes, after_read, read_now, read_by, read_call, size_by, size_call}
-use Rattle.zn_model.specs.Truncating.{check_truncate, truncate_orders, after_truncate, truncate_now, truncate_by, truncate_call, check_sync, after_sync, sync_now, sync_by, sync_call}
+use Rattle.zn_model.specs.Volume.{Live, Volume, Mounted, file_at, shown_at, live_at}
+use Rattle.zn_model.specs.Writing.{write_at_once, write_orders, after_write, write_now, write_by, write_call}
+use Rattle.zn_model.specs.Reading.{reading_refusal, read_end, read_orders, read_bytes, after_read, read_now, read_by, read_call, size_by, size_call}
+use Rattle.zn_model.specs.Given.{told_or}
+use Rattle.zn_model.specs.Truncating.{truncate_at_once, truncate_orders, after_truncate, truncate_now, truncate_by, truncate_call, syncing_refusal, after_sync, sync_now, sync_by, sync_call}
 use Rattle.zn_model.specs.CallAnswers.{Answer, as_refused, unless}
 use Rattle.zn_model.specs.Keys.{unkeyed_handle, unkeyed_live, unkeyed_volume, unkeyed, unkeyed_answer, IsUsedOnce}
 use Rattle.zn_model.proofs.KeysHandles.{is_known, live_at_unkeyed}
@@ -34,38 +35,38 @@ size_unkeyed m h live once e = with_power_unkeyed m _ (size_by (live_at m.volume
 
 -- ---- read
 
-check_read_unkeyed : (v : Volume) (live : Live) (offset : ℕ) → check_read (unkeyed_volume v) (unkeyed_live live) offset ≡ check_read v live offset
-unfolding check_read
-check_read_unkeyed v live offset = refl
+reading_refusal_unkeyed : (v : Volume) (live : Live) (offset : ℕ) → reading_refusal (unkeyed_volume v) (unkeyed_live live) offset ≡ reading_refusal v live offset
+unfolding reading_refusal
+reading_refusal_unkeyed v live offset = refl
 
 after_read_unkeyed : (reply : Reply) (m : Mounted) (f : ℕ) (bytes : List ℕ) → after_read reply (unkeyed m) f bytes ≡ unkeyed_answer (after_read reply m f bytes)
 after_read_unkeyed (Ok unit) m f bytes = refl
 after_read_unkeyed (Err error) m f bytes = as_answer_unkeyed true error m f
 
-read_now_unkeyed : (m : Mounted) (f offset len : ℕ) → read_now (unkeyed m) f offset len ≡ unkeyed_answer (read_now m f offset len)
+read_now_unkeyed : (given : List ℕ) (m : Mounted) (f offset len : ℕ) → read_now given (unkeyed m) f offset len ≡ unkeyed_answer (read_now given m f offset len)
 unfolding read_now
-read_now_unkeyed m f offset len =
+read_now_unkeyed given m f offset len =
     let file = file_at m.volume.inodes f in
     let end = read_end (shown_at m.volume.inodes f) offset len in
-    let orders = issue_all m.world (read_orders file offset end) in
-    after_read_unkeyed orders.reply (record m { world = orders.world }) f (read_bytes m.world.truth file offset end)
+    let orders = issue_all m.world (read_orders m.volume.inodes.shape file offset end) in
+    after_read_unkeyed orders.reply (record m { world = orders.world }) f (told_or m.world.truth (end - offset) (read_bytes m.world.truth m.volume.inodes.shape file offset end) given)
 
-read_by_unkeyed : (found : Option Live) (m : Mounted) (offset len : ℕ) → read_by (option_map unkeyed_live found) (unkeyed m) offset len ≡ unkeyed_answer (read_by found m offset len)
-read_by_unkeyed None m offset len = refl
-read_by_unkeyed (Some live) m offset len =
-    ap (λ check. unless (as_refused check) (unkeyed m) (read_now (unkeyed m) live.file offset len)) (check_read_unkeyed m.volume live offset)
-    ∙ unless_unkeyed (as_refused (check_read m.volume live offset)) m (read_now (unkeyed m) live.file offset len) (read_now m live.file offset len) (read_now_unkeyed m live.file offset len)
+read_by_unkeyed : (given : List ℕ) (found : Option Live) (m : Mounted) (offset len : ℕ) → read_by given (option_map unkeyed_live found) (unkeyed m) offset len ≡ unkeyed_answer (read_by given found m offset len)
+read_by_unkeyed given None m offset len = refl
+read_by_unkeyed given (Some live) m offset len =
+    ap (λ check. unless (as_refused check) (unkeyed m) (read_now given (unkeyed m) live.file offset len)) (reading_refusal_unkeyed m.volume live offset)
+    ∙ unless_unkeyed (as_refused (reading_refusal m.volume live offset)) m (read_now given (unkeyed m) live.file offset len) (read_now given m live.file offset len) (read_now_unkeyed given m live.file offset len)
 
-pub read_unkeyed : (m : Mounted) (h : Handle) (offset len : ℕ) (live : Live) → IsUsedOnce m.volume → live_at m.volume.handles h ≡ Some live → read_call (unkeyed m) (unkeyed_handle h) offset len ≡ unkeyed_answer (read_call m h offset len)
+pub read_unkeyed : (given : List ℕ) (m : Mounted) (h : Handle) (offset len : ℕ) (live : Live) → IsUsedOnce m.volume → live_at m.volume.handles h ≡ Some live → read_call given (unkeyed m) (unkeyed_handle h) offset len ≡ unkeyed_answer (read_call given m h offset len)
 unfolding read_call
-read_unkeyed m h offset len live once e = with_power_unkeyed m _ (read_by (live_at m.volume.handles h) m offset len)
-    (on_live (λ found. read_by found m offset len) (λ found. read_by found (unkeyed m) offset len) m h live once e (λ found. read_by_unkeyed found m offset len))
+read_unkeyed given m h offset len live once e = with_power_unkeyed m _ (read_by given (live_at m.volume.handles h) m offset len)
+    (on_live (λ found. read_by given found m offset len) (λ found. read_by given found (unkeyed m) offset len) m h live once e (λ found. read_by_unkeyed given found m offset len))
 
 -- ---- write
 
-check_write_unkeyed : (v : Volume) (live : Live) (offset len : ℕ) → check_write (unkeyed_volume v) (unkeyed_live live) offset len ≡ check_write v live offset len
-unfolding check_write
-check_write_unkeyed v live offset len = rw (issued_end_unkeyed v live.file, is_queued_unkeyed v.queue live.file)
+write_at_once_unkeyed : (v : Volume) (live : Live) (offset len : ℕ) → write_at_once (unkeyed_volume v) (unkeyed_live live) offset len ≡ write_at_once v live offset len
+unfolding write_at_once
+write_at_once_unkeyed v live offset len = rw (issued_end_unkeyed v live.file, is_queued_unkeyed v.queue live.file)
 
 after_write_unkeyed : (reply : Reply) (m : Mounted) (f len : ℕ) → after_write reply (unkeyed m) f len ≡ unkeyed_answer (after_write reply m f len)
 after_write_unkeyed (Ok unit) m f len = refl
@@ -80,8 +81,8 @@ write_now_unkeyed m f offset bytes =
 write_by_unkeyed : (found : Option Live) (m : Mounted) (offset : ℕ) (bytes : List ℕ) → write_by (option_map unkeyed_live found) (unkeyed m) offset bytes ≡ unkeyed_answer (write_by found m offset bytes)
 write_by_unkeyed None m offset bytes = refl
 write_by_unkeyed (Some live) m offset bytes =
-    ap (λ check. unless check (unkeyed m) (write_now (unkeyed m) live.file offset bytes)) (check_write_unkeyed m.volume live offset (length bytes))
-    ∙ unless_unkeyed (check_write m.volume live offset (length bytes)) m (write_now (unkeyed m) live.file offset bytes) (write_now m live.file offset bytes) (write_now_unkeyed m live.file offset bytes)
+    ap (λ check. unless check (unkeyed m) (write_now (unkeyed m) live.file offset bytes)) (write_at_once_unkeyed m.volume live offset (length bytes))
+    ∙ unless_unkeyed (write_at_once m.volume live offset (length bytes)) m (write_now (unkeyed m) live.file offset bytes) (write_now m live.file offset bytes) (write_now_unkeyed m live.file offset bytes)
 
 pub write_unkeyed : (m : Mounted) (h : Handle) (offset : ℕ) (bytes : List ℕ) (live : Live) → IsUsedOnce m.volume → live_at m.volume.handles h ≡ Some live → write_call (unkeyed m) (unkeyed_handle h) offset bytes ≡ unkeyed_answer (write_call m h offset bytes)
 unfolding write_call
@@ -90,9 +91,9 @@ write_unkeyed m h offset bytes live once e = with_power_unkeyed m _ (write_by (l
 
 -- ---- truncate
 
-check_truncate_unkeyed : (v : Volume) (live : Live) (size : ℕ) → check_truncate (unkeyed_volume v) (unkeyed_live live) size ≡ check_truncate v live size
-unfolding check_truncate
-check_truncate_unkeyed v live size = rw (is_queued_unkeyed v.queue live.file)
+truncate_at_once_unkeyed : (v : Volume) (live : Live) (size : ℕ) → truncate_at_once (unkeyed_volume v) (unkeyed_live live) size ≡ truncate_at_once v live size
+unfolding truncate_at_once
+truncate_at_once_unkeyed v live size = rw (is_queued_unkeyed v.queue live.file)
 
 after_truncate_unkeyed : (reply : Reply) (m : Mounted) (f size : ℕ) → after_truncate reply (unkeyed m) f size ≡ unkeyed_answer (after_truncate reply m f size)
 after_truncate_unkeyed (Ok unit) m f size = refl
@@ -107,8 +108,8 @@ truncate_now_unkeyed m f size =
 truncate_by_unkeyed : (found : Option Live) (m : Mounted) (size : ℕ) → truncate_by (option_map unkeyed_live found) (unkeyed m) size ≡ unkeyed_answer (truncate_by found m size)
 truncate_by_unkeyed None m size = refl
 truncate_by_unkeyed (Some live) m size =
-    ap (λ check. unless check (unkeyed m) (truncate_now (unkeyed m) live.file size)) (check_truncate_unkeyed m.volume live size)
-    ∙ unless_unkeyed (check_truncate m.volume live size) m (truncate_now (unkeyed m) live.file size) (truncate_now m live.file size) (truncate_now_unkeyed m live.file size)
+    ap (λ check. unless check (unkeyed m) (truncate_now (unkeyed m) live.file size)) (truncate_at_once_unkeyed m.volume live size)
+    ∙ unless_unkeyed (truncate_at_once m.volume live size) m (truncate_now (unkeyed m) live.file size) (truncate_now m live.file size) (truncate_now_unkeyed m live.file size)
 
 pub truncate_unkeyed : (m : Mounted) (h : Handle) (size : ℕ) (live : Live) → IsUsedOnce m.volume → live_at m.volume.handles h ≡ Some live → truncate_call (unkeyed m) (unkeyed_handle h) size ≡ unkeyed_answer (truncate_call m h size)
 unfolding truncate_call
@@ -117,9 +118,9 @@ truncate_unkeyed m h size live once e = with_power_unkeyed m _ (truncate_by (liv
 
 -- ---- sync
 
-check_sync_unkeyed : (v : Volume) (live : Live) → check_sync (unkeyed_volume v) (unkeyed_live live) ≡ check_sync v live
-unfolding check_sync
-check_sync_unkeyed v live = rw (is_queued_unkeyed v.queue live.file)
+syncing_refusal_unkeyed : (v : Volume) (live : Live) → syncing_refusal (unkeyed_volume v) (unkeyed_live live) ≡ syncing_refusal v live
+unfolding syncing_refusal
+syncing_refusal_unkeyed v live = rw (is_queued_unkeyed v.queue live.file)
 
 after_sync_unkeyed : (reply : Reply) (m : Mounted) (f : ℕ) → after_sync reply (unkeyed m) f ≡ unkeyed_answer (after_sync reply m f)
 after_sync_unkeyed (Ok unit) m f = refl
@@ -132,8 +133,8 @@ sync_now_unkeyed m f = after_sync_unkeyed (issue m.world FlushAll).reply (record
 sync_by_unkeyed : (found : Option Live) (m : Mounted) → sync_by (option_map unkeyed_live found) (unkeyed m) ≡ unkeyed_answer (sync_by found m)
 sync_by_unkeyed None m = refl
 sync_by_unkeyed (Some live) m =
-    ap (λ check. unless (as_refused check) (unkeyed m) (sync_now (unkeyed m) live.file)) (check_sync_unkeyed m.volume live)
-    ∙ unless_unkeyed (as_refused (check_sync m.volume live)) m (sync_now (unkeyed m) live.file) (sync_now m live.file) (sync_now_unkeyed m live.file)
+    ap (λ check. unless (as_refused check) (unkeyed m) (sync_now (unkeyed m) live.file)) (syncing_refusal_unkeyed m.volume live)
+    ∙ unless_unkeyed (as_refused (syncing_refusal m.volume live)) m (sync_now (unkeyed m) live.file) (sync_now m live.file) (sync_now_unkeyed m live.file)
 
 pub sync_unkeyed : (m : Mounted) (h : Handle) (live : Live) → IsUsedOnce m.volume → live_at m.volume.handles h ≡ Some live → sync_call (unkeyed m) (unkeyed_handle h) ≡ unkeyed_answer (sync_call m h)
 unfolding sync_call

@@ -10,7 +10,7 @@ use Rattle.zn_model.specs.declared.answers.Refusal.TheVariants.{PowerLost}
 use Rattle.zn_model.specs.declared.files.Found.{Found}
 use Rattle.zn_model.specs.declared.handles.Done.{Done}
 use Rattle.zn_model.specs.ZoneFiles.{files_of}
-use Rattle.zn_model.specs.Table.{Request, Queue, Volume, Mounted, file_at, shown_at, wro, queued_bytes, queued_blocks, is_queued, failed, failed_request, issued_end}
+use Rattle.zn_model.specs.Volume.{Request, Queue, Volume, Mounted, file_at, shown_at, wro, queued_bytes, queued_blocks, is_queued, failed, failed_request, issued_end}
 use Rattle.zn_model.specs.Recovery.{Failed, told_after, volume_after, queue_after, inodes_after, applied, finding_of, report_of, recovered, failed_by, is_passed_on, refusal_of, after_failure}
 use Rattle.zn_model.specs.CallAnswers.{Answer, as_answer, refused, unless, with_power}
 use Rattle.zn_model.specs.Keys.{unkeyed_request, unkeyed_queue, unkeyed_volume, unkeyed, unkeyed_answer}
@@ -21,7 +21,7 @@ use Rattle.zn_model.proofs.KeysHandles.{writers_unkeyed}
 
 pub wro_unkeyed : (v : Volume) → wro (unkeyed_volume v) ≡ wro v
 wro_unkeyed v =
-    ap (λ (writers : ℕ → ℕ). count_by (λ f. (file_at v.inodes f).sequential && nat_lt 0 (writers f)) (range_with_len 0 (length (files_of v.inodes.layout))))
+    ap (λ (writers : ℕ → ℕ). count_by (λ f. (file_at v.inodes f).seq && nat_lt 0 (writers f)) (range_with_len 0 (length (files_of v.inodes.layout))))
     (fun_ext (λ f. writers_unkeyed v.handles f))
 
 pub queued_bytes_unkeyed : (queue : Queue) (f : ℕ) → queued_bytes (unkeyed_queue queue) f ≡ queued_bytes queue f

@@ -8,7 +8,7 @@ use Rattle.std.proofs.lemmas.List.Elements.{All-cons, All-weaker}
 use Rattle.zn_truth.proofs.Sound.{count_by-map}
 use Rattle.zn_model.specs.declared.handles.Handle.{Handle}
 use Rattle.zn_model.specs.Access.{writes}
-use Rattle.zn_model.specs.Table.{Live, Handles, Volume, live_at, with_live, without_live, is_same_handle, writers_of}
+use Rattle.zn_model.specs.Volume.{Live, Handles, Volume, live_at, with_live, without_live, is_same_handle, writers_of}
 use Rattle.zn_model.specs.Keys.{unkeyed_handle, unkeyed_live, unkeyed_handles, IsUsedOnce}
 use Rattle.zn_model.proofs.KeysLists.{Agree, find-map, filter-map, passes-find, All-find, AllPairs-head, AllPairs-tail}
 

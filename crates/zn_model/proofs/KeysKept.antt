@@ -7,18 +7,20 @@ use Rattle.zn_truth.specs.declared.DevError.{DevError}
 use Rattle.zn_model.specs.declared.answers.Refusal.{Refusal}
 use Rattle.zn_model.specs.declared.answers.Refusal.TheVariants.{PowerLost}
 use Rattle.zn_model.specs.declared.files.Found.{Found}
-use Rattle.zn_model.specs.Table.{Live, Handles, Request, Queue, Mounted, shown_at, live_at}
-use Rattle.zn_model.specs.Recovery.{applied, finding_of, recovered, queue_after, failed_by, is_passed_on, refusal_of, after_failure}
+use Rattle.zn_truth.proofs.Telling.{issue_told}
+use Rattle.zn_model.specs.Volume.{Live, Handles, Request, Queue, Mounted, file_at, shown_at, live_at}
+use Rattle.zn_model.specs.Recovery.{report_of, applied, finding_of, recovered, queue_after, failed_by, is_passed_on, refusal_of, after_failure}
 use Rattle.zn_model.specs.CallAnswers.{Answer, refused, unless, with_power}
 use Rattle.zn_model.specs.Keys.{IsUsedOnce}
 
--- The handles stay, and what holds of each request that waited holds of each that waits.
+-- Whether bytes are told and the handles stay, and what holds of each request that waited holds of each that waits.
 pub record Keeps (m after : Mounted) : Type 0 where
+  pub told : after.world.truth.told ≡ m.world.truth.told
   pub handles : after.volume.handles ≡ m.volume.handles
   pub queued : (p : Request → Bool) → All (λ request. p request ≡ true) m.volume.queue.queued → All (λ request. p request ≡ true) after.volume.queue.queued
 
 pub keeps_itself : (m : Mounted) → Keeps m m
-keeps_itself m = record { handles = refl; queued = λ p all. all }
+keeps_itself m = record { told = refl; handles = refl; queued = λ p all. all }
 
 -- handles and requests of which these hold
 abbrev pub AreUsedOnce : Handles → List Request → Type 0
@@ -28,7 +30,7 @@ AreUsedOnce handles requests =
     × All (λ request. is_some (live_at handles request.handle) ≡ true) requests
 
 pub keeps_both : (m between after : Mounted) → Keeps m between → Keeps between after → Keeps m after
-keeps_both m between after first second = record { handles = second.handles ∙ first.handles; queued = λ p all. second.queued p (first.queued p all) }
+keeps_both m between after first second = record { told = second.told ∙ first.told; handles = second.handles ∙ first.handles; queued = λ p all. second.queued p (first.queued p all) }
 
 -- what is kept
 abbrev pub Once : Mounted → Type 0
@@ -50,6 +52,7 @@ queued_after (Some found) queue f p all = All-filter (λ (request : Request). no
 pub recovered_keeps : (after_read : Bool) (m : Mounted) (f : ℕ) → Keeps m (recovered after_read m f)
 unfolding recovered
 recovered_keeps after_read m f = record {
+  told = issue_told m.world (report_of (file_at m.volume.inodes f));
   handles = refl;
   queued = queued_after (applied after_read (finding_of m f) (shown_at m.volume.inodes f)) m.volume.queue f;
 }

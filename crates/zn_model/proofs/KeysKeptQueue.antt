@@ -1,19 +1,20 @@
 -- The calls that submit, complete and reap keep generations used once.
-use Rattle.std.proofs.Common.{◌≡◌, ℕ, ◌+◌, true, false, List, [], ◌∷◌, length, Option, Some, None, Ok, Err, refl, ap, subst}
+use Rattle.std.proofs.Common.{◌≡◌, ℕ, ◌+◌, true, false, List, [], ◌∷◌, length, Option, Some, None, Ok, Err, refl, ap, subst, ◌∙◌}
 use Rattle.std.specs.Prelude.{is_some}
 use Rattle.std.specs.List.{All}
 use Rattle.std.proofs.lemmas.List.Elements.{All-push, All-tail}
 use Rattle.zn_truth.specs.declared.DevError.{DevError}
 use Rattle.zn_truth.specs.Orders.{Reply}
-use Rattle.zn_truth.specs.Lists.{issue_all}
+use Rattle.zn_truth.specs.OrderLists.{issue_all}
+use Rattle.zn_truth.proofs.Telling.{issue_all_told}
 use Rattle.zn_model.specs.declared.answers.Outcome.{Outcome}
 use Rattle.zn_model.specs.declared.answers.Outcome.TheVariants.{Ok as was_done}
 use Rattle.zn_model.specs.declared.handles.Done.{Done}
 use Rattle.zn_model.specs.declared.handles.Handle.{Handle}
-use Rattle.zn_model.specs.Table.{Live, Handles, Request, Volume, Mounted, live_at, is_same_handle}
+use Rattle.zn_model.specs.Volume.{Live, Handles, Request, Volume, Mounted, live_at, is_same_handle}
 use Rattle.zn_model.specs.Recovery.{Finding, refusal_of, is_passed_on, finding_of, recovered}
 use Rattle.zn_model.specs.Writing.{write_orders, grown_volume}
-use Rattle.zn_model.specs.Requests.{check_submit, submit_now, submit_by, submit_call, finished, outcome_of, complete_recovered, after_complete, complete_now, complete_by, complete_call, reap_by, reap_call}
+use Rattle.zn_model.specs.Requests.{submitting_refusal, submit_now, submit_by, submit_call, finished, outcome_of, complete_recovered, after_complete, complete_now, complete_by, complete_call, reap_by, reap_call}
 use Rattle.zn_model.specs.CallAnswers.{refused, as_refused}
 use Rattle.zn_model.proofs.KeysLists.{passes-find}
 use Rattle.zn_model.proofs.KeysHandles.{same_handle}
@@ -36,7 +37,7 @@ submit_now_once m h live offset bytes e once =
 submit_by_once : (found : Option Live) (m : Mounted) (h : Handle) (offset : ℕ) (bytes : List ℕ) → live_at m.volume.handles h ≡ found → Once m → Once (submit_by found m offset bytes).mounted
 submit_by_once None m h offset bytes e once = once
 submit_by_once (Some live) m h offset bytes e once =
-    unless_holds Once (as_refused (check_submit m.volume live offset (length bytes))) m (submit_now m live offset bytes) once (submit_now_once m h live offset bytes e once)
+    unless_holds Once (as_refused (submitting_refusal m.volume live offset (length bytes))) m (submit_now m live offset bytes) once (submit_now_once m h live offset bytes e once)
 
 pub submit_once : (m : Mounted) (h : Handle) (offset : ℕ) (bytes : List ℕ) → Once m → Once (submit_call m h offset bytes).mounted
 unfolding submit_call
@@ -48,7 +49,7 @@ HasHandles handles after = after.volume.handles ≡ handles
 
 submit_by_handles : (found : Option Live) (m : Mounted) (offset : ℕ) (bytes : List ℕ) → HasHandles m.volume.handles (submit_by found m offset bytes).mounted
 submit_by_handles None m offset bytes = refl
-submit_by_handles (Some live) m offset bytes = unless_holds (HasHandles m.volume.handles) (as_refused (check_submit m.volume live offset (length bytes))) m (submit_now m live offset bytes) refl refl
+submit_by_handles (Some live) m offset bytes = unless_holds (HasHandles m.volume.handles) (as_refused (submitting_refusal m.volume live offset (length bytes))) m (submit_now m live offset bytes) refl refl
 
 pub submit_handles : (m : Mounted) (h : Handle) (offset : ℕ) (bytes : List ℕ) → (submit_call m h offset bytes).mounted.volume.handles ≡ m.volume.handles
 unfolding submit_call
@@ -61,6 +62,7 @@ submit_handles m h offset bytes =
 behind_first : (m : Mounted) (v : Volume) (request : Request) (waiting : List Request) (outcome : Outcome) → m.volume.queue.queued ≡ request ∷ waiting → v.handles ≡ m.volume.handles
     → Keeps m (record m { volume = finished v request waiting outcome })
 behind_first m v request waiting outcome e same = record {
+  told = refl;
   handles = same;
   queued = λ p all. All-tail (λ (r : Request). p r ≡ true) request waiting (subst (λ (requests : List Request). All (λ (r : Request). p r ≡ true) requests) e all);
 }
@@ -83,7 +85,7 @@ unfolding complete_now
 complete_now_keeps m request waiting e =
     let orders = issue_all m.world (write_orders m.volume request.file request.offset request.bytes) in
     let keeps = after_complete_keeps orders.reply (record m { world = orders.world }) request waiting e in
-    record { handles = keeps.handles; queued = keeps.queued }
+    record { told = keeps.told ∙ issue_all_told m.world (write_orders m.volume request.file request.offset request.bytes); handles = keeps.handles; queued = keeps.queued }
 
 complete_by_keeps : (requests : List Request) (m : Mounted) → m.volume.queue.queued ≡ requests → Keeps m (complete_by requests m).mounted
 complete_by_keeps [] m e = keeps_itself m
@@ -97,7 +99,7 @@ complete_keeps m = with_power_keeps m (complete_by m.volume.queue.queued m) (com
 
 reap_by_keeps : (ended : List Done) (m : Mounted) → Keeps m (reap_by ended m).mounted
 reap_by_keeps [] m = keeps_itself m
-reap_by_keeps (first ∷ rest) m = record { handles = refl; queued = λ p all. all }
+reap_by_keeps (first ∷ rest) m = record { told = refl; handles = refl; queued = λ p all. all }
 
 pub reap_keeps : (m : Mounted) → Keeps m (reap_call m).mounted
 unfolding reap_call

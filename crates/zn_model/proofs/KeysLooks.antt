@@ -5,7 +5,7 @@ use Rattle.std.proofs.lemmas.List.{length-map}
 use Rattle.zn_truth.specs.declared.ZoneInfo.{ZoneInfo}
 use Rattle.zn_truth.specs.Truth.{Truth}
 use Rattle.zn_truth.specs.Orders.{ReadAt, Reply}
-use Rattle.zn_truth.specs.Lists.{issue_all}
+use Rattle.zn_truth.specs.OrderLists.{issue_all}
 use Rattle.zn_truth.specs.World.{World, Outcome, issue}
 use Rattle.zn_model.specs.declared.answers.SuperError.{SuperError}
 use Rattle.zn_model.specs.declared.files.Attr.{Attr}
@@ -13,8 +13,9 @@ use Rattle.zn_model.specs.declared.files.MountOpts.{MountOpts}
 use Rattle.zn_model.specs.declared.files.Stat.{Stat}
 use Rattle.zn_model.specs.SuperBlock.{SuperBlock}
 use Rattle.zn_model.specs.ZoneFiles.{file_named, listing_of}
-use Rattle.zn_model.specs.Table.{Volume, Mounted}
+use Rattle.zn_model.specs.Volume.{Volume, Mounted}
 use Rattle.zn_model.specs.Looks.{file_stat, stat_by, stat_call, entries_by, entries_call, attributes_of, attr_call, after_report, report_all, all_infos, report_call}
+use Rattle.zn_model.specs.Given.{copies_in}
 use Rattle.zn_model.specs.Mounting.{MountAnswer, not_formatted, is_zone0_unfull, super_block_of, closes, fresh_volume, mount_closed, mount_decoded, mount_read, mount_reported, mount_call, unmount_refusal}
 use Rattle.zn_model.specs.CallAnswers.{Answer, answered}
 use Rattle.zn_model.specs.Keys.{unkeyed_live, unkeyed_volume, unkeyed, unkeyed_answer}
@@ -74,31 +75,31 @@ module _ (P : Volume → Type 0) (fresh : (t : Truth) (super_block : SuperBlock)
   decoded_fresh (Err error) w t opts = tt
   decoded_fresh (Ok super_block) w t opts = closed_fresh (issue_all w (closes t)) (issue_all w (closes t)).reply (fresh_volume t super_block opts) (fresh t super_block opts)
 
-  read_fresh : (copies : Outcome) (reply : Reply) (t : Truth) (opts : MountOpts) → IfOk (mount_read copies reply t opts).reply P
-  read_fresh copies (Ok unit) t opts = decoded_fresh (super_block_of t) copies.world t opts
-  read_fresh copies (Err error) t opts = tt
+  read_fresh : (given : List ℕ) (copies : Outcome) (reply : Reply) (t : Truth) (opts : MountOpts) → IfOk (mount_read given copies reply t opts).reply P
+  read_fresh given copies (Ok unit) t opts = decoded_fresh (super_block_of (copies_in t given)) copies.world t opts
+  read_fresh given copies (Err error) t opts = tt
 
   chosen_fresh : (b : Bool) (one other : MountAnswer) → IfOk one.reply P → IfOk other.reply P → IfOk (if b then one else other).reply P
   chosen_fresh true one other holds holds' = holds
   chosen_fresh false one other holds holds' = holds'
 
-  reported_fresh : (reported : Outcome) (reply : Reply) (t : Truth) (opts : MountOpts) → IfOk (mount_reported reported reply t opts).reply P
-  reported_fresh reported (Err error) t opts = tt
-  reported_fresh reported (Ok unit) t opts =
+  reported_fresh : (given : List ℕ) (reported : Outcome) (reply : Reply) (t : Truth) (opts : MountOpts) → IfOk (mount_reported given reported reply t opts).reply P
+  reported_fresh given reported (Err error) t opts = tt
+  reported_fresh given reported (Ok unit) t opts =
       let copies = issue reported.world (ReadAt 0 0 2) in
-      chosen_fresh (is_zone0_unfull t) (not_formatted _ reported.world) (mount_read copies copies.reply t opts) tt (read_fresh copies copies.reply t opts)
+      chosen_fresh (is_zone0_unfull t) (not_formatted _ reported.world) (mount_read given copies copies.reply t opts) tt (read_fresh given copies copies.reply t opts)
 
   -- what holds of every volume as a mount leaves it holds of a mount's
-  pub mount_fresh : (w : World) (opts : MountOpts) → IfOk (mount_call w opts).reply P
+  pub mount_fresh : (given : List ℕ) (w : World) (opts : MountOpts) → IfOk (mount_call given w opts).reply P
   unfolding mount_call
-  mount_fresh w opts = let reported = issue w (report_all w.truth) in reported_fresh reported reported.reply w.truth opts
+  mount_fresh given w opts = let reported = issue w (report_all w.truth) in reported_fresh given reported reported.reply w.truth opts
 
 fresh_unkeyed : (t : Truth) (super_block : SuperBlock) (opts : MountOpts) → unkeyed_volume (fresh_volume t super_block opts) ≡ fresh_volume t super_block opts
 unfolding fresh_volume
 fresh_unkeyed t super_block opts = refl
 
-pub mount_unkeyed : (w : World) (opts : MountOpts) → IfOk (mount_call w opts).reply (λ v. unkeyed_volume v ≡ v)
-mount_unkeyed w opts = mount_fresh (λ v. unkeyed_volume v ≡ v) fresh_unkeyed w opts
+pub mount_unkeyed : (given : List ℕ) (w : World) (opts : MountOpts) → IfOk (mount_call given w opts).reply (λ v. unkeyed_volume v ≡ v)
+mount_unkeyed given w opts = mount_fresh (λ v. unkeyed_volume v ≡ v) fresh_unkeyed given w opts
 
 pub unmount_unkeyed : (m : Mounted) → unmount_refusal (unkeyed m) ≡ unmount_refusal m
 unfolding unmount_refusal

@@ -14,8 +14,8 @@ use Rattle.zn_model.specs.declared.handles.Mode.{Mode}
 use Rattle.zn_model.specs.declared.handles.Who.{Who}
 use Rattle.zn_model.specs.ZoneFiles.{file_named}
 use Rattle.zn_model.specs.Access.{writes}
-use Rattle.zn_model.specs.Table.{Live, Handles, Request, Volume, Mounted, file_at, shown_at, live_at, writers_of, is_same_handle, is_queued_through, next_handle}
-use Rattle.zn_model.specs.OpenClose.{begins_writing, check_open, held_open, opened, is_limit, after_open, open_now, open_by, open_call, after_close, ended, unheld, close_now, close_by, close_call}
+use Rattle.zn_model.specs.Volume.{Live, Handles, Request, Volume, Mounted, file_at, shown_at, live_at, writers_of, is_same_handle, is_queued_through, next_handle}
+use Rattle.zn_model.specs.OpenClose.{begins_writing, opening_refusal, held_open, opened, is_limit, after_open, open_now, open_by, open_call, after_close, ended, unheld, close_now, close_by, close_call}
 use Rattle.zn_model.specs.Recovery.{refusal_of, after_failure}
 use Rattle.zn_model.specs.CallAnswers.{Answer, answered, refused, as_answer, as_refused, unless}
 use Rattle.zn_model.specs.Keys.{unkeyed_handle, unkeyed_live, unkeyed_handles, unkeyed_request, unkeyed_queue, unkeyed_volume, unkeyed, unkeyed_answer, unkeyed_opened, IsUsedOnce}
@@ -26,11 +26,11 @@ use Rattle.zn_model.proofs.KeysFailures.{wro_unkeyed, after_failure_unkeyed, as_
 -- ---- open
 
 begins_writing_unkeyed : (v : Volume) (f : ℕ) (mode : Mode) → begins_writing (unkeyed_volume v) f mode ≡ begins_writing v f mode
-begins_writing_unkeyed v f mode = ap (λ n. v.explicit_open && writes mode && (file_at v.inodes f).sequential && (n == 0)) (writers_unkeyed v.handles f)
+begins_writing_unkeyed v f mode = ap (λ n. v.explicit_open && writes mode && (file_at v.inodes f).seq && (n == 0)) (writers_unkeyed v.handles f)
 
-check_open_unkeyed : (max_open : ℕ) (v : Volume) (f : ℕ) (mode : Mode) (who : Who) → check_open max_open (unkeyed_volume v) f mode who ≡ check_open max_open v f mode who
-unfolding check_open
-check_open_unkeyed max_open v f mode who = rw (length-map v.handles.live unkeyed_live, begins_writing_unkeyed v f mode, wro_unkeyed v)
+opening_refusal_unkeyed : (max_open : ℕ) (v : Volume) (f : ℕ) (mode : Mode) (who : Who) → opening_refusal max_open (unkeyed_volume v) f mode who ≡ opening_refusal max_open v f mode who
+unfolding opening_refusal
+opening_refusal_unkeyed max_open v f mode who = rw (length-map v.handles.live unkeyed_live, begins_writing_unkeyed v f mode, wro_unkeyed v)
 
 opened_unkeyed : (m : Mounted) (key f : ℕ) (mode : Mode) → opened (unkeyed m) 0 f mode ≡ unkeyed_opened (opened m key f mode)
 opened_unkeyed m key f mode =
@@ -64,8 +64,8 @@ unless_opened None m plain keyed e = e
 open_by_unkeyed : (found : Option ℕ) (m : Mounted) (key : ℕ) (mode : Mode) (who : Who) → open_by found (unkeyed m) 0 mode who ≡ unkeyed_opened (open_by found m key mode who)
 open_by_unkeyed None m key mode who = refl
 open_by_unkeyed (Some f) m key mode who =
-    ap (λ check. unless (as_refused check) (unkeyed m) (open_now (unkeyed m) 0 f mode)) (check_open_unkeyed m.world.truth.shape.max_open m.volume f mode who)
-    ∙ unless_opened (check_open m.world.truth.shape.max_open m.volume f mode who) m (open_now (unkeyed m) 0 f mode) (open_now m key f mode) (open_now_unkeyed m key f mode)
+    ap (λ check. unless (as_refused check) (unkeyed m) (open_now (unkeyed m) 0 f mode)) (opening_refusal_unkeyed m.world.truth.shape.max_open m.volume f mode who)
+    ∙ unless_opened (opening_refusal m.world.truth.shape.max_open m.volume f mode who) m (open_now (unkeyed m) 0 f mode) (open_now m key f mode) (open_now_unkeyed m key f mode)
 
 pub open_unkeyed : (m : Mounted) (key : ℕ) (path : List ℕ) (mode : Mode) (who : Who) → open_call (unkeyed m) 0 path mode who ≡ unkeyed_opened (open_call m key path mode who)
 unfolding open_call

@@ -4,13 +4,13 @@ use Rattle.std.specs.Prelude.{option_map}
 use Rattle.std.proofs.lemmas.List.{length-map, map-append}
 use Rattle.zn_truth.specs.declared.DevError.{DevError}
 use Rattle.zn_truth.specs.Orders.{Reply}
-use Rattle.zn_truth.specs.Lists.{issue_all}
+use Rattle.zn_truth.specs.OrderLists.{issue_all}
 use Rattle.zn_model.specs.declared.handles.Done.{Done}
 use Rattle.zn_model.specs.declared.handles.Handle.{Handle}
-use Rattle.zn_model.specs.Table.{Live, Request, Queue, Volume, Mounted, live_at}
+use Rattle.zn_model.specs.Volume.{Live, Request, Queue, Volume, Mounted, live_at}
 use Rattle.zn_model.specs.Recovery.{Finding, refusal_of, is_passed_on, finding_of}
 use Rattle.zn_model.specs.Writing.{write_orders}
-use Rattle.zn_model.specs.Requests.{check_room, check_submit, submit_now, submit_by, submit_call, finished, outcome_of, complete_recovered, after_complete, complete_now, complete_by, complete_call, reap_by, reap_call}
+use Rattle.zn_model.specs.Requests.{queue_refusal, submitting_refusal, submit_now, submit_by, submit_call, finished, outcome_of, complete_recovered, after_complete, complete_now, complete_by, complete_call, reap_by, reap_call}
 use Rattle.zn_model.specs.CallAnswers.{Answer, answered, refused, as_refused, unless}
 use Rattle.zn_model.specs.Keys.{unkeyed_handle, unkeyed_live, unkeyed_request, unkeyed_queue, unkeyed_volume, unkeyed, unkeyed_answer, IsUsedOnce}
 use Rattle.zn_model.proofs.KeysFailures.{queued_blocks_unkeyed, issued_end_unkeyed, recovered_unkeyed, unless_unkeyed, chosen_unkeyed, with_power_unkeyed}
@@ -18,12 +18,12 @@ use Rattle.zn_model.proofs.KeysCalls.{on_live}
 
 -- ---- submit
 
-check_room_unkeyed : (queue : Queue) (len : ℕ) → check_room (unkeyed_queue queue) len ≡ check_room queue len
-check_room_unkeyed queue len = rw (length-map queue.queued unkeyed_request, queued_blocks_unkeyed queue)
+queue_refusal_unkeyed : (queue : Queue) (len : ℕ) → queue_refusal (unkeyed_queue queue) len ≡ queue_refusal queue len
+queue_refusal_unkeyed queue len = rw (length-map queue.queued unkeyed_request, queued_blocks_unkeyed queue)
 
-check_submit_unkeyed : (v : Volume) (live : Live) (offset len : ℕ) → check_submit (unkeyed_volume v) (unkeyed_live live) offset len ≡ check_submit v live offset len
-unfolding check_submit
-check_submit_unkeyed v live offset len = rw (issued_end_unkeyed v live.file, check_room_unkeyed v.queue len)
+submitting_refusal_unkeyed : (v : Volume) (live : Live) (offset len : ℕ) → submitting_refusal (unkeyed_volume v) (unkeyed_live live) offset len ≡ submitting_refusal v live offset len
+unfolding submitting_refusal
+submitting_refusal_unkeyed v live offset len = rw (issued_end_unkeyed v live.file, queue_refusal_unkeyed v.queue len)
 
 submit_now_unkeyed : (m : Mounted) (live : Live) (offset : ℕ) (bytes : List ℕ) → submit_now (unkeyed m) (unkeyed_live live) offset bytes ≡ unkeyed_answer (submit_now m live offset bytes)
 submit_now_unkeyed m live offset bytes =
@@ -35,8 +35,8 @@ submit_now_unkeyed m live offset bytes =
 submit_by_unkeyed : (found : Option Live) (m : Mounted) (offset : ℕ) (bytes : List ℕ) → submit_by (option_map unkeyed_live found) (unkeyed m) offset bytes ≡ unkeyed_answer (submit_by found m offset bytes)
 submit_by_unkeyed None m offset bytes = refl
 submit_by_unkeyed (Some live) m offset bytes =
-    ap (λ check. unless (as_refused check) (unkeyed m) (submit_now (unkeyed m) (unkeyed_live live) offset bytes)) (check_submit_unkeyed m.volume live offset (length bytes))
-    ∙ unless_unkeyed (as_refused (check_submit m.volume live offset (length bytes))) m (submit_now (unkeyed m) (unkeyed_live live) offset bytes) (submit_now m live offset bytes) (submit_now_unkeyed m live offset bytes)
+    ap (λ check. unless (as_refused check) (unkeyed m) (submit_now (unkeyed m) (unkeyed_live live) offset bytes)) (submitting_refusal_unkeyed m.volume live offset (length bytes))
+    ∙ unless_unkeyed (as_refused (submitting_refusal m.volume live offset (length bytes))) m (submit_now (unkeyed m) (unkeyed_live live) offset bytes) (submit_now m live offset bytes) (submit_now_unkeyed m live offset bytes)
 
 pub submit_unkeyed : (m : Mounted) (h : Handle) (offset : ℕ) (bytes : List ℕ) (live : Live) → IsUsedOnce m.volume → live_at m.volume.handles h ≡ Some live → submit_call (unkeyed m) (unkeyed_handle h) offset bytes ≡ unkeyed_answer (submit_call m h offset bytes)
 unfolding submit_call

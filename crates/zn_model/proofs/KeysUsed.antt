@@ -12,14 +12,15 @@ use Rattle.zn_truth.specs.Truth.{Truth}
 use Rattle.zn_truth.specs.World.{World, issue}
 use Rattle.zn_model.specs.declared.files.MountOpts.{MountOpts}
 use Rattle.zn_model.specs.SuperBlock.{SuperBlock}
+use Rattle.zn_truth.proofs.Telling.{issue_told}
 use Rattle.zn_model.specs.Mounting.{fresh_volume, mount_call}
 use Rattle.zn_model.specs.declared.handles.Handle.{Handle}
 use Rattle.zn_model.specs.declared.handles.Mode.{Mode}
 use Rattle.zn_model.specs.declared.handles.Who.{Who}
-use Rattle.zn_model.specs.ZoneFiles.{capacity_of, file_named}
+use Rattle.zn_model.specs.ZoneFiles.{file_named}
 use Rattle.zn_model.specs.Access.{writes}
-use Rattle.zn_model.specs.Table.{Live, Handles, Request, Mounted, file_at, shown_at, live_at, writers_of, is_same_handle, is_queued_through, next_handle, with_live, without_live}
-use Rattle.zn_model.specs.OpenClose.{begins_writing, check_open, held_open, opened, is_limit, after_open, open_now, open_by, open_call, after_close, ended, unheld, close_now, close_by, close_call}
+use Rattle.zn_model.specs.Volume.{Live, Handles, Request, Mounted, file_at, capacity_at, shown_at, live_at, writers_of, is_same_handle, is_queued_through, next_handle, with_live, without_live}
+use Rattle.zn_model.specs.OpenClose.{begins_writing, opening_refusal, held_open, opened, is_limit, after_open, open_now, open_by, open_call, after_close, ended, unheld, close_now, close_by, close_call}
 use Rattle.zn_model.specs.Recovery.{refusal_of, after_failure}
 use Rattle.zn_model.specs.CallAnswers.{answered, refused, as_answer, as_refused}
 use Rattle.zn_model.specs.Keys.{IsUsedOnce}
@@ -61,8 +62,8 @@ fresh_once t super_block opts = record {
   queued = λ k d below. absurd (omega arith);
 }
 
-pub mount_once : (w : World) (opts : MountOpts) → IfOk (mount_call w opts).reply IsUsedOnce
-mount_once w opts = mount_fresh IsUsedOnce fresh_once w opts
+pub mount_once : (given : List ℕ) (w : World) (opts : MountOpts) → IfOk (mount_call given w opts).reply IsUsedOnce
+mount_once given w opts = mount_fresh IsUsedOnce fresh_once given w opts
 
 -- ---- open
 
@@ -79,7 +80,7 @@ opened_once m key f mode once =
 after_open_once : (reply : Reply) (m : Mounted) (key f : ℕ) (mode : Mode) → Once m → Once (after_open reply m key f mode).mounted
 after_open_once (Ok unit) m key f mode once =
     let held = record m { volume = record m.volume { inodes = held_open m.volume.inodes f true } } in
-    opened_once held key f mode (once_kept m held (record { handles = refl; queued = λ p all. all }) once)
+    opened_once held key f mode (once_kept m held (record { told = refl; handles = refl; queued = λ p all. all }) once)
 after_open_once (Err error) m key f mode once =
     chosen_holds Once (is_limit error) (refused (refusal_of error) m) (as_answer (after_failure false error m f)) once (once_kept m (after_failure false error m f).mounted (failure_keeps false error m f) once)
 
@@ -88,13 +89,13 @@ unfolding open_now
 open_now_once m key f mode once =
     let done = issue m.world (Manage (file_at m.volume.inodes f).first Open) in
     let after = record m { world = done.world } in
-    chosen_holds Once (begins_writing m.volume f mode && not ((shown_at m.volume.inodes f).size == capacity_of (file_at m.volume.inodes f))) (after_open done.reply after key f mode) (opened m key f mode)
-    (after_open_once done.reply after key f mode (once_kept m after (record { handles = refl; queued = λ p all. all }) once)) (opened_once m key f mode once)
+    chosen_holds Once (begins_writing m.volume f mode && not ((shown_at m.volume.inodes f).size == capacity_at m.volume.inodes f)) (after_open done.reply after key f mode) (opened m key f mode)
+    (after_open_once done.reply after key f mode (once_kept m after (record { told = issue_told m.world (Manage (file_at m.volume.inodes f).first Open); handles = refl; queued = λ p all. all }) once)) (opened_once m key f mode once)
 
 open_by_once : (found : Option ℕ) (m : Mounted) (key : ℕ) (mode : Mode) (who : Who) → Once m → Once (open_by found m key mode who).mounted
 open_by_once None m key mode who once = once
 open_by_once (Some f) m key mode who once =
-    unless_holds Once (as_refused (check_open m.world.truth.shape.max_open m.volume f mode who)) m (open_now m key f mode) once (open_now_once m key f mode once)
+    unless_holds Once (as_refused (opening_refusal m.world.truth.shape.max_open m.volume f mode who)) m (open_now m key f mode) once (open_now_once m key f mode once)
 
 pub open_once : (m : Mounted) (key : ℕ) (path : List ℕ) (mode : Mode) (who : Who) → Once m → Once (open_call m key path mode who).mounted
 unfolding open_call
@@ -132,7 +133,7 @@ close_now_once m live once idle =
     let ends : Once after = ended_once m live.handle once idle in
     let closed = record (unheld after live.file) { world = done.world } in
     chosen_holds Once (writes live.mode && (writers_of after.volume.handles live.file == 0) && (shown_at m.volume.inodes live.file).held_open) (after_close done.reply closed live.file) (answered tt after)
-    (after_close_once done.reply closed live.file (once_kept after closed (record { handles = refl; queued = λ p all. all }) ends)) ends
+    (after_close_once done.reply closed live.file (once_kept after closed (record { told = issue_told m.world (Manage (file_at m.volume.inodes live.file).first Close); handles = refl; queued = λ p all. all }) ends)) ends
 
 close_by_once : (found : Option Live) (m : Mounted) → Once m → Once (close_by found m).mounted
 close_by_once None m once = once

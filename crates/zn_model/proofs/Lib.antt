@@ -18,10 +18,6 @@ pub mod KeysKept
 pub mod KeysKeptCalls
 pub mod KeysUsed
 pub mod KeysKeptQueue
-pub mod Separated
-pub mod NumberWords
-pub mod LineWords
-pub mod DataWords
-pub mod WordKinds
-pub mod LineForms
-pub mod LineReading
+pub mod Alike
+pub mod ToldCalls
+pub mod QuietCases

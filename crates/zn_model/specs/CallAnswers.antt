@@ -3,7 +3,7 @@ use Rattle.std.specs.Prelude.{Bool, not, if◌then◌else◌, Option, Some, None
 use Rattle.zn_model.specs.declared.files.Shown.{Shown}
 use Rattle.zn_model.specs.declared.answers.Refusal.{Refusal}
 use Rattle.zn_model.specs.declared.answers.Refusal.TheVariants.{FileOffline, FileReadOnly, FsReadOnly, Busy, PowerLost}
-use Rattle.zn_model.specs.Table.{Mounted}
+use Rattle.zn_model.specs.Volume.{Mounted}
 use Rattle.zn_model.specs.Recovery.{Failed}
 
 -- What a call answers, and what it leaves.
@@ -35,8 +35,8 @@ with_power m answer = if m.world.powered then answer else refused PowerLost m
 -- ---- checks
 
 -- the rights of a file, as a call that changes it needs them
-abbrev pub check_rights : Bool → Shown → Option Refusal
-check_rights read_only shown =
+abbrev pub rights_refusal : Bool → Shown → Option Refusal
+rights_refusal read_only shown =
     if read_only then Some FsReadOnly
     else if not shown.may_read then Some FileOffline
     else if not shown.may_write then Some FileReadOnly
@@ -53,5 +53,5 @@ as_refused None = None
 as_refused (Some refusal) = Some (Err refusal)
 
 -- refused as busy while a request waits
-abbrev pub check_busy : Bool → Option Refusal
-check_busy queued = if queued then Some Busy else None
+abbrev pub busy_refusal : Bool → Option Refusal
+busy_refusal queued = if queued then Some Busy else None

@@ -8,7 +8,7 @@ use Rattle.zn_model.specs.declared.files.MountOpts.{MountOpts}
 use Rattle.zn_model.specs.declared.handles.Handle.{Handle}
 use Rattle.zn_model.specs.declared.handles.Mode.{Mode}
 use Rattle.zn_model.specs.declared.handles.Who.{Who}
-use Rattle.zn_model.specs.Table.{Live, Handles, Request, Queue, Volume, Mounted, live_at}
+use Rattle.zn_model.specs.Volume.{Live, Handles, Request, Queue, Volume, Mounted, live_at}
 use Rattle.zn_model.specs.CallAnswers.{Answer}
 use Rattle.zn_model.specs.Writing.{write_call}
 use Rattle.zn_model.specs.Reading.{read_call, size_call}
@@ -72,12 +72,12 @@ pub record IsUsedOnce (v : Volume) : Type 0 where
 
 -- A mount's volume has no keys; calls on a handle that is live; an open with any key; the other calls.
 pub record CallsIgnoreKeys : Type 0 where
-  pub mount : (w : World) (opts : MountOpts) → IfOk (mount_call w opts).reply (λ v. unkeyed_volume v ≡ v)
+  pub mount : (given : List ℕ) (w : World) (opts : MountOpts) → IfOk (mount_call given w opts).reply (λ v. unkeyed_volume v ≡ v)
   pub unmount : (m : Mounted) → unmount_refusal (unkeyed m) ≡ unmount_refusal m
   pub opens : (m : Mounted) (key : ℕ) (path : List ℕ) (mode : Mode) (who : Who) → open_call (unkeyed m) 0 path mode who ≡ unkeyed_opened (open_call m key path mode who)
   pub close : (m : Mounted) (h : Handle) (live : Live) → IsUsedOnce m.volume → live_at m.volume.handles h ≡ Some live → close_call (unkeyed m) (unkeyed_handle h) ≡ unkeyed_answer (close_call m h)
   pub size : (m : Mounted) (h : Handle) (live : Live) → IsUsedOnce m.volume → live_at m.volume.handles h ≡ Some live → size_call (unkeyed m) (unkeyed_handle h) ≡ unkeyed_answer (size_call m h)
-  pub read : (m : Mounted) (h : Handle) (offset len : ℕ) (live : Live) → IsUsedOnce m.volume → live_at m.volume.handles h ≡ Some live → read_call (unkeyed m) (unkeyed_handle h) offset len ≡ unkeyed_answer (read_call m h offset len)
+  pub read : (given : List ℕ) (m : Mounted) (h : Handle) (offset len : ℕ) (live : Live) → IsUsedOnce m.volume → live_at m.volume.handles h ≡ Some live → read_call given (unkeyed m) (unkeyed_handle h) offset len ≡ unkeyed_answer (read_call given m h offset len)
   pub write : (m : Mounted) (h : Handle) (offset : ℕ) (bytes : List ℕ) (live : Live) → IsUsedOnce m.volume → live_at m.volume.handles h ≡ Some live → write_call (unkeyed m) (unkeyed_handle h) offset bytes ≡ unkeyed_answer (write_call m h offset bytes)
   pub truncate : (m : Mounted) (h : Handle) (size : ℕ) (live : Live) → IsUsedOnce m.volume → live_at m.volume.handles h ≡ Some live → truncate_call (unkeyed m) (unkeyed_handle h) size ≡ unkeyed_answer (truncate_call m h size)
   pub sync : (m : Mounted) (h : Handle) (live : Live) → IsUsedOnce m.volume → live_at m.volume.handles h ≡ Some live → sync_call (unkeyed m) (unkeyed_handle h) ≡ unkeyed_answer (sync_call m h)
@@ -91,11 +91,11 @@ pub record CallsIgnoreKeys : Type 0 where
 
 -- On a mount's volume no generation was used, and each call keeps generations used once.
 pub record CallsUseOnce : Type 0 where
-  pub mount : (w : World) (opts : MountOpts) → IfOk (mount_call w opts).reply IsUsedOnce
+  pub mount : (given : List ℕ) (w : World) (opts : MountOpts) → IfOk (mount_call given w opts).reply IsUsedOnce
   pub opens : (m : Mounted) (key : ℕ) (path : List ℕ) (mode : Mode) (who : Who) → IsUsedOnce m.volume → IsUsedOnce (open_call m key path mode who).mounted.volume
   pub close : (m : Mounted) (h : Handle) → IsUsedOnce m.volume → IsUsedOnce (close_call m h).mounted.volume
   pub size : (m : Mounted) (h : Handle) → IsUsedOnce m.volume → IsUsedOnce (size_call m h).mounted.volume
-  pub read : (m : Mounted) (h : Handle) (offset len : ℕ) → IsUsedOnce m.volume → IsUsedOnce (read_call m h offset len).mounted.volume
+  pub read : (given : List ℕ) (m : Mounted) (h : Handle) (offset len : ℕ) → IsUsedOnce m.volume → IsUsedOnce (read_call given m h offset len).mounted.volume
   pub write : (m : Mounted) (h : Handle) (offset : ℕ) (bytes : List ℕ) → IsUsedOnce m.volume → IsUsedOnce (write_call m h offset bytes).mounted.volume
   pub truncate : (m : Mounted) (h : Handle) (size : ℕ) → IsUsedOnce m.volume → IsUsedOnce (truncate_call m h size).mounted.volume
   pub sync : (m : Mounted) (h : Handle) → IsUsedOnce m.volume → IsUsedOnce (sync_call m h).mounted.volume
@@ -110,7 +110,7 @@ pub record CallsUseOnce : Type 0 where
 -- No call but an open and a close changes the handles.
 pub record CallsKeepHandles : Type 0 where
   pub size : (m : Mounted) (h : Handle) → (size_call m h).mounted.volume.handles ≡ m.volume.handles
-  pub read : (m : Mounted) (h : Handle) (offset len : ℕ) → (read_call m h offset len).mounted.volume.handles ≡ m.volume.handles
+  pub read : (given : List ℕ) (m : Mounted) (h : Handle) (offset len : ℕ) → (read_call given m h offset len).mounted.volume.handles ≡ m.volume.handles
   pub write : (m : Mounted) (h : Handle) (offset : ℕ) (bytes : List ℕ) → (write_call m h offset bytes).mounted.volume.handles ≡ m.volume.handles
   pub truncate : (m : Mounted) (h : Handle) (size : ℕ) → (truncate_call m h size).mounted.volume.handles ≡ m.volume.handles
   pub sync : (m : Mounted) (h : Handle) → (sync_call m h).mounted.volume.handles ≡ m.volume.handles

@@ -3,6 +3,7 @@
 -- changed; the attributes are those of sysfs)
 use Rattle.std.specs.Prelude.{ℕ, ◌+◌, ◌*◌, ◌/◌, ◌%◌, Bool, true, false, ◌&&◌, ◌||◌, not, nat_lt, List, length, map, count_by, if◌then◌else◌, Option, Some, None, Ok, Err}
 use Rattle.std.specs.List.{range_with_len}
+use Rattle.zn_truth.specs.declared.Shape.{Shape}
 use Rattle.zn_truth.specs.declared.ZoneInfo.{ZoneInfo}
 use Rattle.zn_truth.specs.Truth.{Truth, info_at}
 use Rattle.zn_truth.specs.Orders.{Order, ReportFrom, Reply}
@@ -16,7 +17,7 @@ use Rattle.zn_model.specs.declared.answers.Refusal.TheVariants.{NoSuchFile, NotA
 use Rattle.zn_model.specs.declared.answers.Refusal.{Refusal}
 use Rattle.zn_model.specs.ZoneFiles.{room_of, capacity_of, files_of, file_named, listing_of, place_of}
 use Rattle.zn_model.specs.Access.{unwritable}
-use Rattle.zn_model.specs.Table.{Volume, Mounted, file_at, shown_at, writers_of, wro}
+use Rattle.zn_model.specs.Volume.{Inodes, Volume, Mounted, file_at, shown_at, writers_of, wro}
 use Rattle.zn_model.specs.Recovery.{refusal_of}
 use Rattle.zn_model.specs.CallAnswers.{Answer, refused, answered, with_power}
 
@@ -37,7 +38,7 @@ file_stat v f = record {
   zone = (file_at v.inodes f).first;
   zones = (file_at v.inodes f).zones;
   size = (shown_at v.inodes f).size;
-  blocks = 8 * room_of (file_at v.inodes f);
+  blocks = 8 * room_of v.inodes.shape (file_at v.inodes f);
   mode = mode_of v.super_block.perm (shown_at v.inodes f);
   uid = v.super_block.uid;
   gid = v.super_block.gid;
@@ -70,9 +71,14 @@ entries_call m path = with_power m (entries_by (listing_of m.volume.inodes.layou
 -- ---- attributes
 
 -- a sequential file that may be written, and is held open or shown partly full
-abbrev pub is_shown_active : FileZones → Shown → Bool
-is_shown_active file shown =
-    file.sequential && shown.may_write && (shown.held_open || (nat_lt 0 shown.size && nat_lt shown.size (capacity_of file)))
+abbrev pub is_shown_active : Shape → FileZones → Shown → Bool
+is_shown_active shape file shown =
+    file.seq && shown.may_write && (shown.held_open || (nat_lt 0 shown.size && nat_lt shown.size (capacity_of shape file)))
+
+-- how many files are shown active
+abbrev pub shown_active : Inodes → ℕ
+shown_active inodes =
+    count_by (λ f. is_shown_active inodes.shape (file_at inodes f) (shown_at inodes f)) (range_with_len 0 (length (files_of inodes.layout)))
 
 -- the device's two limits; how many sequential files are open for writing, and how many are shown active
 abbrev pub attributes_of : Mounted → Attr
@@ -80,7 +86,7 @@ attributes_of m = record {
   max_wro = m.world.truth.shape.max_open;
   nr_wro = wro m.volume;
   max_active = m.world.truth.shape.max_active;
-  nr_active = count_by (λ f. is_shown_active (file_at m.volume.inodes f) (shown_at m.volume.inodes f)) (range_with_len 0 (length (files_of m.volume.inodes.layout)));
+  nr_active = shown_active m.volume.inodes;
 }
 
 -- The attributes of the volume.

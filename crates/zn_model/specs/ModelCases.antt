@@ -1,8 +1,9 @@
 -- Small cases of the definitions, computed.
-use Rattle.std.specs.Prelude.{◌≡◌, ℕ, true, false, [], ◌∷◌, Some, None, Ok, Err, codes}
+use Rattle.std.specs.Prelude.{◌≡◌, ℕ, true, false, List, [], ◌∷◌, Some, None, Ok, Err, codes}
 use Rattle.zn_base.specs.Runs.{data_text}
+use Rattle.zn_truth.specs.declared.Kind.{Kind}
 use Rattle.zn_truth.specs.declared.Kind.TheVariants.{Conventional, Sequential}
-use Rattle.zn_truth.specs.Truth.{Geometry}
+use Rattle.zn_truth.specs.declared.Shape.{Shape}
 use Rattle.zn_truth.specs.Orders.{ReadAt}
 use Rattle.zn_model.specs.declared.answers.OptError.TheVariants.{UnknownOption, Repeated, BadValue}
 use Rattle.zn_model.specs.declared.files.Area.{Area}
@@ -14,24 +15,25 @@ use Rattle.zn_model.specs.declared.handles.Who.{Who}
 use Rattle.zn_model.specs.Access.{access}
 use Rattle.zn_model.specs.Options.{mount_options, format_options}
 use Rattle.zn_model.specs.Pieces.{reads}
-use Rattle.zn_model.specs.ZoneFiles.{layout_of, file_named, listing_of, place_of}
+use Rattle.zn_model.specs.ZoneFiles.{layout_of, room_of, capacity_of, file_named, listing_of, place_of}
 
 -- ---- layouts
 
--- conventional zones 0, 1, 2 and 4, and the sequential zone 3, of four blocks
-abbrev pub five_zones : Geometry
-five_zones = record {
-  shape = record { zone_blocks = 4; zone_capacity = 4; max_open = 0; max_active = 0 };
-  kinds = Conventional ∷ Conventional ∷ Conventional ∷ Sequential ∷ Conventional ∷ [];
-}
+-- conventional zones 0, 1, 2 and 4, and the sequential zone 3
+abbrev pub five_zones : List Kind
+five_zones = Conventional ∷ Conventional ∷ Conventional ∷ Sequential ∷ Conventional ∷ []
 
--- a file of so many conventional zones of four blocks, from its first zone on
+-- zones of five blocks, of which a sequential one has room for four
+abbrev pub five_blocks_each : Shape
+five_blocks_each = record { zone_blocks = 5; zone_capacity = 4; max_open = 0; max_active = 0 }
+
+-- a file of so many conventional zones, from its first zone on
 abbrev pub cnv_of : ℕ → ℕ → FileZones
-cnv_of first zones = record { first = first; zones = zones; room = 4; sequential = false }
+cnv_of first zones = record { first = first; zones = zones; seq = false }
 
--- a file of one sequential zone of four blocks
+-- a file of one sequential zone
 abbrev pub seq_of : ℕ → FileZones
-seq_of first = record { first = first; zones = 1; room = 4; sequential = true }
+seq_of first = record { first = first; zones = 1; seq = true }
 
 -- A file a zone, but for the super block's; with aggregation zones 1 and 2 are one file, zone 0 is none, and
 -- nothing is joined across zone 3.
@@ -49,6 +51,8 @@ pub record LayoutCases : Type 0 where
   pub joined_place : place_of (layout_of five_zones true) 2 ≡ Cnv 0
   pub seq_place : place_of (layout_of five_zones true) 3 ≡ Seq 0
   pub last_place : place_of (layout_of five_zones true) 4 ≡ Cnv 1
+  pub joined_room : room_of five_blocks_each (cnv_of 1 2) ≡ 10
+  pub seq_capacity : capacity_of five_blocks_each (seq_of 3) ≡ 16384
 
 -- ---- access
 

@@ -1,12 +1,13 @@
 -- The calls that mount and unmount. ("filesystems/zonefs"; the commands that a mount issues are own)
-use Rattle.std.specs.Prelude.{Bool, false, ◌&&◌, not, ◌==◌, nat_lt, List, [], length, map, filter, if◌then◌else◌, Option, Some, None, Result, Ok, Err}
+use Rattle.std.specs.Prelude.{Bool, false, ◌&&◌, not, ◌==◌, nat_lt, ℕ, List, [], length, take, drop, map, filter, if◌then◌else◌, Option, Some, None, Result, Ok, Err}
 use Rattle.std.specs.List.{range_with_len}
+use Rattle.zn_truth.specs.declared.limits.TheConstants.{BLOCK_SIZE}
 use Rattle.zn_truth.specs.declared.DevError.{DevError}
-use Rattle.zn_truth.specs.declared.DevError.TheVariants.{ReadOnly, Offline, Unaligned, TooManyActive, TooManyOpen, BeyondWp, Fault, PowerLost, Broken, Memory}
+use Rattle.zn_truth.specs.declared.DevError.TheVariants.{PowerLost, Broken, Memory}
 use Rattle.zn_truth.specs.declared.ZoneOp.TheVariants.{Close}
-use Rattle.zn_truth.specs.Truth.{Truth, geometry, zone_at, bytes_at, is_sequential, is_good}
+use Rattle.zn_truth.specs.Truth.{Truth, geometry, zone_at, is_sequential, is_good}
 use Rattle.zn_truth.specs.Orders.{Order, ReadAt, Manage, Reply}
-use Rattle.zn_truth.specs.Lists.{issue_all}
+use Rattle.zn_truth.specs.OrderLists.{issue_all}
 use Rattle.zn_truth.specs.World.{World, Outcome, issue}
 use Rattle.zn_model.specs.declared.files.MountOpts.{MountOpts}
 use Rattle.zn_model.specs.declared.answers.MountError.{MountError}
@@ -20,7 +21,8 @@ use Rattle.zn_model.specs.declared.answers.Refusal.TheVariants.{Busy, PowerLost 
 use Rattle.zn_model.specs.SuperBlock.{SuperBlock, decoded}
 use Rattle.zn_model.specs.ZoneFiles.{Layout, layout_of, files_of}
 use Rattle.zn_model.specs.ShownStates.{mounted_shown}
-use Rattle.zn_model.specs.Table.{Volume, Mounted, Inodes, Handles, Queue}
+use Rattle.zn_model.specs.Volume.{Volume, Mounted, Inodes, Handles, Queue}
+use Rattle.zn_model.specs.Given.{copies_in}
 use Rattle.zn_model.specs.Looks.{report_all}
 
 -- ---- mount
@@ -32,16 +34,10 @@ pub record MountAnswer : Type 0 where
 
 -- a failure of the device, as a mount tells it
 abbrev pub mount_error_of : DevError → MountError
-mount_error_of ReadOnly = IoError
-mount_error_of Offline = IoError
-mount_error_of Unaligned = IoError
-mount_error_of TooManyActive = IoError
-mount_error_of TooManyOpen = IoError
-mount_error_of BeyondWp = IoError
-mount_error_of Fault = IoError
 mount_error_of PowerLost = no_power
 mount_error_of Broken = is_broken
 mount_error_of Memory = no_memory
+mount_error_of error = IoError
 
 -- what is wrong with the super block, as a mount tells it
 abbrev pub why_of : SuperError → Why
@@ -54,9 +50,9 @@ why_of (BadField place) = why_field place
 abbrev pub is_zone0_unfull : Truth → Bool
 is_zone0_unfull t = is_sequential (zone_at t 0).kind && not ((zone_at t 0).held == t.shape.zone_capacity)
 
--- what the two copies of the super block say
-abbrev pub super_block_of : Truth → Result SuperBlock SuperError
-super_block_of t = decoded (bytes_at t 0 0 1) (bytes_at t 0 1 1)
+-- what the two copies of the super block say, one behind the other
+abbrev pub super_block_of : List ℕ → Result SuperBlock SuperError
+super_block_of copies = decoded (take BLOCK_SIZE copies) (drop BLOCK_SIZE copies)
 
 -- the closes of the good zones that are explicitly open, in rising order
 abbrev pub closes : Truth → List Order
@@ -72,7 +68,7 @@ fresh_queue = record { queued = []; finished = []; last_ticket = 0 }
 
 -- the files, with what a mount shows of each; the file system isn't read-only
 abbrev pub fresh_inodes : Truth → Layout → Inodes
-fresh_inodes t layout = record { layout = layout; shown = map (mounted_shown t) (files_of layout); read_only = false }
+fresh_inodes t layout = record { layout = layout; shape = t.shape; shown = map (mounted_shown t) (files_of layout); read_only = false }
 
 -- a volume as a mount leaves it: every file shows what it holds, nothing is open or queued
 unfoldable pub fresh_volume : Truth → SuperBlock → MountOpts → Volume
@@ -80,7 +76,7 @@ fresh_volume t super_block opts = record {
   super_block = super_block;
   policy = opts.policy;
   explicit_open = opts.explicit_open;
-  inodes = fresh_inodes t (layout_of (geometry t) super_block.aggr_cnv);
+  inodes = fresh_inodes t (layout_of (geometry t).kinds super_block.aggr_cnv);
   handles = fresh_handles;
   queue = fresh_queue;
 }
@@ -104,21 +100,22 @@ mount_decoded (Err error) w t opts = not_formatted (why_of error) w
 mount_decoded (Ok super_block) w t opts = mount_closed (issue_all w (closes t)) (issue_all w (closes t)).reply (fresh_volume t super_block opts)
 
 -- after the read of the copies
-abbrev pub mount_read : Outcome → Reply → Truth → MountOpts → MountAnswer
-mount_read copies (Ok unit) t opts = mount_decoded (super_block_of t) copies.world t opts
-mount_read copies (Err error) t opts = mount_failed error copies.world
+abbrev pub mount_read : List ℕ → Outcome → Reply → Truth → MountOpts → MountAnswer
+mount_read given copies (Ok unit) t opts = mount_decoded (super_block_of (copies_in t given)) copies.world t opts
+mount_read given copies (Err error) t opts = mount_failed error copies.world
 
 -- after the report
-abbrev pub mount_reported : Outcome → Reply → Truth → MountOpts → MountAnswer
-mount_reported reported (Err error) t opts = mount_failed error reported.world
-mount_reported reported (Ok unit) t opts =
+abbrev pub mount_reported : List ℕ → Outcome → Reply → Truth → MountOpts → MountAnswer
+mount_reported given reported (Err error) t opts = mount_failed error reported.world
+mount_reported given reported (Ok unit) t opts =
     if is_zone0_unfull t then not_formatted Zone0NotFull reported.world
-    else mount_read (issue reported.world (ReadAt 0 0 2)) (issue reported.world (ReadAt 0 0 2)).reply t opts
+    else mount_read given (issue reported.world (ReadAt 0 0 2)) (issue reported.world (ReadAt 0 0 2)).reply t opts
 
 -- Mounts: a report of all zones; a read of blocks 0 and 1 of zone 0, as one; a close of each good zone that
--- is explicitly open. The first failure ends it.
-unfoldable pub mount_call : World → MountOpts → MountAnswer
-mount_call w opts = mount_reported (issue w (report_all w.truth)) (issue w (report_all w.truth)).reply w.truth opts
+-- is explicitly open. The first failure ends it. `given` is what the read gave, and counts only where the device
+-- doesn't tell its bytes.
+unfoldable pub mount_call : List ℕ → World → MountOpts → MountAnswer
+mount_call given w opts = mount_reported given (issue w (report_all w.truth)) (issue w (report_all w.truth)).reply w.truth opts
 
 -- ---- unmount
 

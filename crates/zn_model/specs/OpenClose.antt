@@ -2,8 +2,9 @@
 -- zone command is own: an open of a full file issues none, the last close issues one where the file is held
 -- open)
 use Rattle.std.specs.Prelude.{ℕ, Bool, true, false, ◌&&◌, not, ◌==◌, nat_le, List, length, if◌then◌else◌, Option, Some, None, Ok, Err}
+use Rattle.zn_model.specs.declared.limits.TheConstants.{MAX_HANDLES}
 use Rattle.zn_truth.specs.declared.DevError.{DevError}
-use Rattle.zn_truth.specs.declared.DevError.TheVariants.{ReadOnly, Offline, Unaligned, TooManyActive, TooManyOpen, BeyondWp, Fault, PowerLost, Broken, Memory}
+use Rattle.zn_truth.specs.declared.DevError.TheVariants.{TooManyActive, TooManyOpen}
 use Rattle.zn_truth.specs.declared.ZoneOp.TheVariants.{Open, Close}
 use Rattle.zn_truth.specs.Truth.{is_reached}
 use Rattle.zn_truth.specs.Orders.{Manage, Reply}
@@ -13,9 +14,9 @@ use Rattle.zn_model.specs.declared.handles.Mode.{Mode}
 use Rattle.zn_model.specs.declared.handles.Who.{Who}
 use Rattle.zn_model.specs.declared.answers.Refusal.{Refusal}
 use Rattle.zn_model.specs.declared.answers.Refusal.TheVariants.{NoSuchFile, Denied, FileOffline, FileReadOnly, FsReadOnly, BadHandle, TooManyHandles, TooManyWriters, Busy}
-use Rattle.zn_model.specs.ZoneFiles.{capacity_of, file_named}
+use Rattle.zn_model.specs.ZoneFiles.{file_named}
 use Rattle.zn_model.specs.Access.{writes, access}
-use Rattle.zn_model.specs.Table.{Volume, Mounted, Inodes, Live, file_at, shown_at, with_shown, max_handles, live_at, with_live, without_live, next_handle, writers_of, wro, is_queued_through}
+use Rattle.zn_model.specs.Volume.{Volume, Mounted, Inodes, Live, file_at, capacity_at, shown_at, with_shown, live_at, with_live, without_live, next_handle, writers_of, wro, is_queued_through}
 use Rattle.zn_model.specs.Recovery.{refusal_of, after_failure}
 use Rattle.zn_model.specs.CallAnswers.{Answer, refused, answered, as_answer, unless, with_power, as_refused}
 
@@ -25,13 +26,13 @@ owner_of v = record { uid = v.super_block.uid; gid = v.super_block.gid }
 
 -- an open for writing of a sequential file without a writer, on a volume with explicit opens
 abbrev pub begins_writing : Volume → ℕ → Mode → Bool
-begins_writing v f mode = v.explicit_open && writes mode && (file_at v.inodes f).sequential && (writers_of v.handles f == 0)
+begins_writing v f mode = v.explicit_open && writes mode && (file_at v.inodes f).seq && (writers_of v.handles f == 0)
 
 -- The checks of an open, once the file is found: room for a handle, the rights, access, and the limit on
 -- sequential files open for writing.
-unfoldable pub check_open : ℕ → Volume → ℕ → Mode → Who → Option Refusal
-check_open max_open v f mode who =
-    if nat_le max_handles (length v.handles.live) then Some TooManyHandles
+unfoldable pub opening_refusal : ℕ → Volume → ℕ → Mode → Who → Option Refusal
+opening_refusal max_open v f mode who =
+    if nat_le MAX_HANDLES (length v.handles.live) then Some TooManyHandles
     else if writes mode && v.inodes.read_only then Some FsReadOnly
     else if not (shown_at v.inodes f).may_read then Some FileOffline
     else if writes mode && not (shown_at v.inodes f).may_write then Some FileReadOnly
@@ -54,14 +55,7 @@ opened m key f mode = answered (next_handle m.volume.handles key)
 abbrev pub is_limit : DevError → Bool
 is_limit TooManyActive = true
 is_limit TooManyOpen = true
-is_limit ReadOnly = false
-is_limit Offline = false
-is_limit Unaligned = false
-is_limit BeyondWp = false
-is_limit Fault = false
-is_limit PowerLost = false
-is_limit Broken = false
-is_limit Memory = false
+is_limit error = false
 
 -- what follows the zone command of an open, by its reply; a refused open makes no handle
 abbrev pub after_open : Reply → Mounted → ℕ → ℕ → Mode → Answer Handle
@@ -72,14 +66,14 @@ after_open (Err error) m key f mode = if is_limit error then refused (refusal_of
 unfoldable pub open_now : Mounted → ℕ → ℕ → Mode → Answer Handle
 open_now m key f mode =
     let order = Manage (file_at m.volume.inodes f).first Open in
-    if begins_writing m.volume f mode && not ((shown_at m.volume.inodes f).size == capacity_of (file_at m.volume.inodes f))
+    if begins_writing m.volume f mode && not ((shown_at m.volume.inodes f).size == capacity_at m.volume.inodes f)
     then after_open (issue m.world order).reply (record m { world = (issue m.world order).world }) key f mode
     else opened m key f mode
 
 -- a path of no file is refused; else the checks of an open, and then the open itself
 abbrev pub open_by : Option ℕ → Mounted → ℕ → Mode → Who → Answer Handle
 open_by None m key mode who = refused NoSuchFile m
-open_by (Some f) m key mode who = unless (as_refused (check_open m.world.truth.shape.max_open m.volume f mode who)) m (open_now m key f mode)
+open_by (Some f) m key mode who = unless (as_refused (opening_refusal m.world.truth.shape.max_open m.volume f mode who)) m (open_now m key f mode)
 
 -- Opens the file of a path, in a mode, for someone. The handle's key is any that no live handle has.
 unfoldable pub open_call : Mounted → ℕ → List ℕ → Mode → Who → Answer Handle

@@ -1,9 +1,11 @@
 -- The parts of an area of a file, one in each zone that it touches, and the orders for them. (own)
 use Rattle.std.specs.Prelude.{ℕ, ◌+◌, ◌-◌, ◌*◌, ◌/◌, ◌^◌, ◌<◌, ◌≤◌, min, max, List, take, drop}
 use Rattle.std.specs.List.{range_with_len, flat_map}
+use Rattle.zn_truth.specs.declared.limits.TheConstants.{BLOCK_SIZE}
 use Rattle.zn_truth.specs.Truth.{Geometry, Truth, bytes_at}
 use Rattle.zn_truth.specs.Orders.{Order, WriteAt, ReadAt}
-use Rattle.zn_truth.specs.Lists.{Fits, each_zone}
+use Rattle.zn_truth.specs.OrderLists.{each_zone}
+use Rattle.zn_truth.specs.Obeying.{Fits}
 use Rattle.zn_model.specs.declared.files.Area.{Area}
 use Rattle.zn_model.specs.declared.files.Piece.{Piece}
 
@@ -26,7 +28,7 @@ zone_to a = (a.from + a.blocks - 1) / a.room + 1
 
 -- blocks of the bytes
 abbrev pub blocks_of : List ℕ → ℕ → ℕ → List ℕ
-blocks_of bytes before n = take (4096 * n) (drop (4096 * before) bytes)
+blocks_of bytes before n = take (BLOCK_SIZE * n) (drop (BLOCK_SIZE * before) bytes)
 
 -- the order that writes the area's part in the file's zone i, with that part of the bytes
 abbrev pub write_in : Area → List ℕ → ℕ → Order

@@ -1,10 +1,12 @@
 -- What follows a failed command: a report of the file's zones, and the file changed by the policy's row.
 -- ("filesystems/zonefs, IO error handling"; a failed report counts as offline, and the requests end: own)
 use Rattle.std.specs.Prelude.{ℕ, ◌*◌, Bool, true, false, ◌&&◌, ◌||◌, not, ◌==◌, List, if◌then◌else◌, Option, Some, None, Result, Ok, Err}
+use Rattle.zn_truth.specs.declared.limits.TheConstants.{BLOCK_SIZE}
 use Rattle.zn_truth.specs.declared.Cond.TheVariants.{Offline}
+use Rattle.zn_truth.specs.declared.Shape.{Shape}
 use Rattle.zn_truth.specs.declared.ZoneInfo.{ZoneInfo}
 use Rattle.zn_truth.specs.declared.DevError.{DevError}
-use Rattle.zn_truth.specs.declared.DevError.TheVariants.{ReadOnly, Offline as dev_offline, Unaligned, TooManyActive, TooManyOpen, BeyondWp, Fault, PowerLost, Broken, Memory}
+use Rattle.zn_truth.specs.declared.DevError.TheVariants.{TooManyActive, TooManyOpen, PowerLost, Broken, Memory}
 use Rattle.zn_truth.specs.Truth.{is_good}
 use Rattle.zn_truth.specs.Orders.{Order, ReportFrom, Reply}
 use Rattle.zn_truth.specs.World.{World, issue}
@@ -16,33 +18,23 @@ use Rattle.zn_model.specs.declared.answers.Refusal.{Refusal}
 use Rattle.zn_model.specs.declared.answers.Refusal.TheVariants.{IoError, TooManyActive as refused_active, TooManyOpen as refused_open, PowerLost as refused_power, Broken as refused_broken, Memory as refused_memory}
 use Rattle.zn_model.specs.ZoneFiles.{room_of}
 use Rattle.zn_model.specs.ShownStates.{infos_of, worst, holds, policy_row, makes_read_only}
-use Rattle.zn_model.specs.Table.{Inodes, Queue, Volume, Mounted, file_at, shown_at, with_shown, failed}
+use Rattle.zn_model.specs.Volume.{Inodes, Queue, Volume, Mounted, file_at, shown_at, with_shown, failed}
 
 -- a failure of the device, as a call tells it
 abbrev pub refusal_of : DevError → Refusal
-refusal_of ReadOnly = IoError
-refusal_of dev_offline = IoError
-refusal_of Unaligned = IoError
-refusal_of BeyondWp = IoError
-refusal_of Fault = IoError
 refusal_of TooManyActive = refused_active
 refusal_of TooManyOpen = refused_open
 refusal_of PowerLost = refused_power
 refusal_of Broken = refused_broken
 refusal_of Memory = refused_memory
+refusal_of error = IoError
 
 -- a failure that is passed on, with no recovery
 abbrev pub is_passed_on : DevError → Bool
 is_passed_on PowerLost = true
 is_passed_on Broken = true
 is_passed_on Memory = true
-is_passed_on ReadOnly = false
-is_passed_on dev_offline = false
-is_passed_on Unaligned = false
-is_passed_on BeyondWp = false
-is_passed_on Fault = false
-is_passed_on TooManyActive = false
-is_passed_on TooManyOpen = false
+is_passed_on error = false
 
 -- ---- what a report finds
 
@@ -66,18 +58,21 @@ finding w file = found_by (issue w (report_of file)).reply (infos_of w.truth fil
 -- ---- what becomes of the file
 
 -- The file's state by the policy's row. It stays held open only where its zones are good and it isn't full.
-abbrev pub recovered_shown : Policy → Found → FileZones → Shown → Shown
-recovered_shown policy found file shown =
-    policy_row policy found.cond (4096 * found.held) shown.size (shown.held_open && is_good found.cond && not (found.held == room_of file))
+abbrev pub recovered_shown : Policy → Found → Shape → FileZones → Shown → Shown
+recovered_shown policy found shape file shown =
+    policy_row policy found.cond (BLOCK_SIZE * found.held) shown.size
+    (shown.held_open && is_good found.cond && not (found.held == room_of shape file))
 
 -- the files after a recovery of one: its state, and the whole file system's where the policy says so
 unfoldable pub recovered_inodes : Policy → Found → Inodes → ℕ → Inodes
 recovered_inodes policy found inodes f =
-    record (with_shown inodes f (recovered_shown policy found (file_at inodes f) (shown_at inodes f))) { read_only = inodes.read_only || makes_read_only policy }
+    record (with_shown inodes f (recovered_shown policy found inodes.shape (file_at inodes f) (shown_at inodes f))) {
+      read_only = inodes.read_only || makes_read_only policy;
+    }
 
 -- whether a file shows what a report found, and that is good
 abbrev pub agrees : Found → Shown → Bool
-agrees found shown = is_good found.cond && (4096 * found.held == shown.size)
+agrees found shown = is_good found.cond && (BLOCK_SIZE * found.held == shown.size)
 
 -- what of a finding is applied to the file: after a read nothing where the file agrees; nothing of a failure
 -- that is passed on

@@ -1,9 +1,11 @@
 -- Writes that are queued and carried out later, oldest first. (own)
 use Rattle.std.specs.Prelude.{ℕ, ◌+◌, ◌-◌, ◌/◌, false, not, ◌==◌, nat_lt, nat_le, List, [], ◌∷◌, ◌++◌, length, if◌then◌else◌, Option, Some, None, Ok, Err}
+use Rattle.zn_truth.specs.declared.limits.TheConstants.{BLOCK_SIZE}
+use Rattle.zn_model.specs.declared.limits.TheConstants.{MAX_REQUESTS, POOL_BLOCKS}
 use Rattle.zn_truth.specs.declared.DevError.{DevError}
-use Rattle.zn_truth.specs.declared.DevError.TheVariants.{ReadOnly, Offline, Unaligned, TooManyActive, TooManyOpen, BeyondWp, Fault, PowerLost, Broken, Memory}
+use Rattle.zn_truth.specs.declared.DevError.TheVariants.{TooManyActive, TooManyOpen}
 use Rattle.zn_truth.specs.Orders.{Reply}
-use Rattle.zn_truth.specs.Lists.{issue_all}
+use Rattle.zn_truth.specs.OrderLists.{issue_all}
 use Rattle.zn_model.specs.declared.handles.Handle.{Handle}
 use Rattle.zn_model.specs.declared.handles.Done.{Done}
 use Rattle.zn_model.specs.declared.answers.Outcome.{Outcome}
@@ -11,30 +13,32 @@ use Rattle.zn_model.specs.declared.answers.Outcome.TheVariants.{Ok as was_done, 
 use Rattle.zn_model.specs.declared.answers.Refusal.{Refusal}
 use Rattle.zn_model.specs.declared.answers.Refusal.TheVariants.{BadHandle, BadMode, Unaligned as not_aligned, QueueFull, PoolEmpty, NothingQueued, NothingDone}
 use Rattle.zn_model.specs.Access.{writes}
-use Rattle.zn_model.specs.Table.{Volume, Mounted, Live, Queue, Request, file_at, shown_at, live_at, max_requests, pool_blocks, queued_blocks, issued_end}
+use Rattle.zn_model.specs.Volume.{Volume, Mounted, Live, Queue, Request, file_at, shown_at, live_at, queued_blocks, issued_end}
 use Rattle.zn_model.specs.Recovery.{Finding, refusal_of, is_passed_on, finding_of, recovered}
-use Rattle.zn_model.specs.Writing.{check_area, write_orders, grown_volume}
-use Rattle.zn_model.specs.CallAnswers.{Answer, refused, answered, unless, with_power, check_rights, or_else, as_refused}
+use Rattle.zn_model.specs.Writing.{area_refusal, write_orders, grown_volume}
+use Rattle.zn_model.specs.CallAnswers.{Answer, refused, answered, unless, with_power, rights_refusal, or_else, as_refused}
 
 -- ---- submit
 
 -- room for a request, and for its blocks
-abbrev pub check_room : Queue → ℕ → Option Refusal
-check_room queue len =
-    if nat_le max_requests (length queue.queued + length queue.finished) then Some QueueFull
-    else if nat_lt (pool_blocks - queued_blocks queue) (len / 4096) then Some PoolEmpty
+abbrev pub queue_refusal : Queue → ℕ → Option Refusal
+queue_refusal queue len =
+    if nat_le MAX_REQUESTS (length queue.queued + length queue.finished) then Some QueueFull
+    else if nat_lt (POOL_BLOCKS - queued_blocks queue) (len / BLOCK_SIZE) then Some PoolEmpty
     else None
 
 -- a submit of no bytes counts as unaligned
-abbrev pub check_some : ℕ → Option Refusal
-check_some len = if len == 0 then Some not_aligned else None
+abbrev pub empty_refusal : ℕ → Option Refusal
+empty_refusal len = if len == 0 then Some not_aligned else None
 
 -- the checks of a submit: those of a write, but that no bytes are unaligned, and then the room
-unfoldable pub check_submit : Volume → Live → ℕ → ℕ → Option Refusal
-check_submit v live offset len =
+unfoldable pub submitting_refusal : Volume → Live → ℕ → ℕ → Option Refusal
+submitting_refusal v live offset len =
     if not (writes live.mode) then Some BadMode
-    else or_else (check_rights v.inodes.read_only (shown_at v.inodes live.file))
-    (or_else (check_some len) (or_else (check_area (file_at v.inodes live.file) (issued_end v live.file) offset len) (check_room v.queue len)))
+    else or_else (rights_refusal v.inodes.read_only (shown_at v.inodes live.file))
+    (or_else (empty_refusal len)
+    (or_else (area_refusal v.inodes.shape (file_at v.inodes live.file) (issued_end v live.file) offset len)
+    (queue_refusal v.queue len)))
 
 -- the write waits behind all others, with the next ticket
 abbrev pub submitted : Queue → Live → ℕ → List ℕ → Queue
@@ -51,7 +55,7 @@ submit_now m live offset bytes = answered (m.volume.queue.last_ticket + 1)
 -- a handle that isn't live is refused; else the checks refuse, or the write is queued
 abbrev pub submit_by : Option Live → Mounted → ℕ → List ℕ → Answer ℕ
 submit_by None m offset bytes = refused BadHandle m
-submit_by (Some live) m offset bytes = unless (as_refused (check_submit m.volume live offset (length bytes))) m (submit_now m live offset bytes)
+submit_by (Some live) m offset bytes = unless (as_refused (submitting_refusal m.volume live offset (length bytes))) m (submit_now m live offset bytes)
 
 -- Queues a write, and answers its ticket: 1, 2, 3 and so on since the mount.
 unfoldable pub submit_call : Mounted → Handle → ℕ → List ℕ → Answer ℕ
@@ -63,14 +67,7 @@ submit_call m h offset bytes = with_power m (submit_by (live_at m.volume.handles
 abbrev pub outcome_of : DevError → Outcome
 outcome_of TooManyActive = had_too_many_active
 outcome_of TooManyOpen = had_too_many_open
-outcome_of ReadOnly = had_io_error
-outcome_of Offline = had_io_error
-outcome_of Unaligned = had_io_error
-outcome_of BeyondWp = had_io_error
-outcome_of Fault = had_io_error
-outcome_of PowerLost = had_io_error
-outcome_of Broken = had_io_error
-outcome_of Memory = had_io_error
+outcome_of error = had_io_error
 
 -- the oldest request has ended so, and the others wait
 abbrev pub finished : Volume → Request → List Request → Outcome → Volume

@@ -1,6 +1,7 @@
 -- What a file shows to every handle, and what a recovery makes of it.
 use Rattle.std.specs.Prelude.{ℕ, ◌*◌, Bool, true, false, List, [], ◌∷◌, map, sum_by}
 use Rattle.std.specs.List.{range_with_len}
+use Rattle.zn_truth.specs.declared.limits.TheConstants.{BLOCK_SIZE}
 use Rattle.zn_truth.specs.declared.Cond.{Cond}
 use Rattle.zn_truth.specs.declared.Cond.TheVariants.{Good, ReadOnly, Offline}
 use Rattle.zn_truth.specs.declared.ZoneInfo.{ZoneInfo}
@@ -73,4 +74,4 @@ mounted_by Offline held = showing 0 false false false
 -- What a mount shows of a file: what it holds, with all rights, where all its zones are good; else size 0
 -- and no rights. ("filesystems/zonefs, IO error handling": read-only at a mount is as offline)
 abbrev pub mounted_shown : Truth → FileZones → Shown
-mounted_shown t file = mounted_by (worst (infos_of t file)) (4096 * holds (infos_of t file))
+mounted_shown t file = mounted_by (worst (infos_of t file)) (BLOCK_SIZE * holds (infos_of t file))

@@ -1,7 +1,7 @@
 -- The super block: what it holds, its block of 4,096 bytes, and which two blocks are copies of one. (own)
 use Rattle.std.specs.Prelude.{◌≡◌, ℕ, ◌+◌, ◌-◌, ◌%◌, ◌^◌, ◌<◌, ◌≤◌, Bool, ◌&&◌, ◌||◌, not, ◌==◌, nat_lt, nat_le, List, [], ◌∷◌, length, take, drop, replicate, if◌then◌else◌, slice_index, Option, Some, None, Result, Ok, Err, option_map}
 use Rattle.std.specs.Int.{w32, w64, to_le_bytes, from_le_bytes}
-use Rattle.std.specs.List.{All, find, list_any, position, range_with_len, take_while, zip}
+use Rattle.std.specs.List.{All, find, list_all, list_any, position, range_with_len, take_while, zip}
 use Rattle.zn_base.specs.Texts.{◌⧺◌}
 use Rattle.zn_model.specs.declared.answers.SuperError.{SuperError}
 use Rattle.zn_model.specs.declared.answers.SuperError.TheVariants.{BadMagic, CopiesDiffer, BadVersion, BadField}
@@ -82,6 +82,10 @@ features_of block = from_le_bytes w64 (field_at block 88 8)
 -- a byte that a label may have
 abbrev pub is_label_byte : ℕ → Bool
 is_label_byte byte = nat_le 0x21 byte && nat_le byte 0x7E
+
+-- a text that may be a label: at most 64 bytes, all such as a label may have
+abbrev pub is_label : List ℕ → Bool
+is_label text = nat_le (length text) 64 && list_all is_label_byte text
 
 -- what the fields of a block say
 unfoldable pub fields_of : List ℕ → SuperBlock

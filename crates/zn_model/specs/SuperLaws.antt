@@ -3,6 +3,7 @@ use Rattle.std.specs.Prelude.{◌≡◌, ◌≢◌, ◌<◌, ◌≤◌, ◌⊎�
 use Rattle.std.specs.Int.{w32, w64, to_le_bytes}
 use Rattle.std.specs.List.{All}
 use Rattle.zn_base.specs.Texts.{◌⧺◌}
+use Rattle.zn_truth.specs.declared.limits.TheConstants.{BLOCK_SIZE}
 use Rattle.zn_model.specs.declared.answers.SuperError.{SuperError}
 use Rattle.zn_model.specs.declared.answers.SuperError.TheVariants.{BadMagic, CopiesDiffer, BadVersion, BadField}
 use Rattle.zn_model.specs.SuperBlock.{SuperBlock, IsSuperBlock, magic, version, features, zeros, padded, encoded, field_at, number_at, features_of, fields_of, decoded}
@@ -90,7 +91,7 @@ pub record HasFieldsOf (s : SuperBlock) (block : List ℕ) : Type 0 where
 
 -- a super block's block has 4,096 bytes
 abbrev pub EncodedLength : Type 0
-EncodedLength = (s : SuperBlock) → IsSuperBlock s → length (encoded s) ≡ 4096
+EncodedLength = (s : SuperBlock) → IsSuperBlock s → length (encoded s) ≡ BLOCK_SIZE
 
 -- it has each field at its place
 abbrev pub EncodedFields : Type 0
@@ -110,7 +111,7 @@ EncodedDecodes = (s : SuperBlock) → IsSuperBlock s → decoded (encoded s) (en
 abbrev pub DecodedIsEncoded : Type 0
 DecodedIsEncoded =
     (first second : List ℕ) (s : SuperBlock)
-    → length first ≡ 4096 → length second ≡ 4096
+    → length first ≡ BLOCK_SIZE → length second ≡ BLOCK_SIZE
     → All (λ byte. byte < 256) first → All (λ byte. byte < 256) second
     → decoded first second ≡ Ok s
     → (first ≡ encoded s) × (second ≡ encoded s) × IsSuperBlock s
@@ -123,7 +124,7 @@ MagicIsFirst = (first second : List ℕ) → number_at first 0 ≢ magic → dec
 
 -- a place where blocks differ that are the same before it
 pub record IsFirstDifference (first second : List ℕ) (place : ℕ) : Type 0 where
-  pub within : place < 4096
+  pub within : place < BLOCK_SIZE
   pub differ : slice_index first place ≢ slice_index second place
   pub before : (k : ℕ) → k < place → slice_index first k ≡ slice_index second k
 
@@ -131,7 +132,7 @@ pub record IsFirstDifference (first second : List ℕ) (place : ℕ) : Type 0 wh
 abbrev pub CopiesAreNext : Type 0
 CopiesAreNext =
     (first second : List ℕ) (place : ℕ)
-    → length first ≡ 4096 → length second ≡ 4096
+    → length first ≡ BLOCK_SIZE → length second ≡ BLOCK_SIZE
     → number_at first 0 ≡ magic
     → IsFirstDifference first second place
     → decoded first second ≡ Err (CopiesDiffer place)
@@ -162,7 +163,7 @@ pub data IsBadPlace (block : List ℕ) (place : ℕ) : Type 0 where
 abbrev pub FieldsAreLast : Type 0
 FieldsAreLast =
     (block : List ℕ) (place : ℕ)
-    → length block ≡ 4096
+    → length block ≡ BLOCK_SIZE
     → number_at block 0 ≡ magic → number_at block 4 ≡ version
     → IsBadPlace block place → ((k : ℕ) → k < place → ¬ IsBadPlace block k)
     → decoded block block ≡ Err (BadField place)
@@ -171,7 +172,7 @@ FieldsAreLast =
 abbrev pub OthersAreRead : Type 0
 OthersAreRead =
     (block : List ℕ)
-    → length block ≡ 4096
+    → length block ≡ BLOCK_SIZE
     → number_at block 0 ≡ magic → number_at block 4 ≡ version
     → ((k : ℕ) → ¬ IsBadPlace block k)
     → decoded block block ≡ Ok (fields_of block)

@@ -4,9 +4,11 @@ use Rattle.std.specs.Prelude.{ℕ, ◌+◌, ◌-◌, ◌*◌, Bool, true, false,
 use Rattle.std.specs.List.{range_with_len}
 use Rattle.std.specs.Str.{bytes_eq}
 use Rattle.std.specs.Fmt.{decimal}
+use Rattle.zn_truth.specs.declared.limits.TheConstants.{BLOCK_SIZE}
 use Rattle.zn_truth.specs.declared.Kind.{Kind}
-use Rattle.zn_truth.specs.declared.Kind.TheVariants.{Sequential}
-use Rattle.zn_truth.specs.Truth.{Geometry, is_sequential}
+use Rattle.zn_truth.specs.declared.Kind.TheVariants.{Conventional, Sequential}
+use Rattle.zn_truth.specs.declared.Shape.{Shape}
+use Rattle.zn_truth.specs.Truth.{room, is_sequential}
 use Rattle.zn_model.specs.declared.files.FileZones.{FileZones}
 use Rattle.zn_model.specs.declared.files.Place.{Place}
 use Rattle.zn_model.specs.declared.files.Place.TheVariants.{Super, Cnv, Seq, Unplaced}
@@ -37,33 +39,43 @@ begins_cnv aggr kinds z =
 abbrev pub run_length : List Kind → ℕ → ℕ
 run_length kinds z = length (take_while is_conventional (drop z kinds))
 
--- one zone, or with aggregation the run that begins there, with room for all blocks of each
-abbrev pub cnv_file : Bool → Geometry → ℕ → FileZones
-cnv_file aggr g z = record { first = z; zones = if aggr then run_length g.kinds z else 1; room = g.shape.zone_blocks; sequential = false }
+-- one conventional zone, or with aggregation the run that begins there
+abbrev pub cnv_file : Bool → List Kind → ℕ → FileZones
+cnv_file aggr kinds z = record { first = z; zones = if aggr then run_length kinds z else 1; seq = false }
 
--- one zone, with room for the blocks of the zone capacity
-abbrev pub seq_file : Geometry → ℕ → FileZones
-seq_file g z = record { first = z; zones = 1; room = g.shape.zone_capacity; sequential = true }
+-- one sequential zone
+abbrev pub seq_file : ℕ → FileZones
+seq_file z = record { first = z; zones = 1; seq = true }
 
 -- A file for each sequential zone from zone 1 on, and for each conventional one, or with aggregation for
 -- each maximal run of them.
-unfoldable pub layout_of : Geometry → Bool → Layout
-layout_of g aggr = record {
-  cnv = map (cnv_file aggr g) (filter (begins_cnv aggr g.kinds) (range_with_len 0 (length g.kinds)));
-  seq = map (seq_file g) (filter (begins_seq g.kinds) (range_with_len 0 (length g.kinds)));
+unfoldable pub layout_of : List Kind → Bool → Layout
+layout_of kinds aggr = record {
+  cnv = map (cnv_file aggr kinds) (filter (begins_cnv aggr kinds) (range_with_len 0 (length kinds)));
+  seq = map seq_file (filter (begins_seq kinds) (range_with_len 0 (length kinds)));
 }
 
 -- all files, by their numbers: those of `cnv` first
 abbrev pub files_of : Layout → List FileZones
 files_of layout = layout.cnv ++ layout.seq
 
+-- ---- room
+
+-- the kind of a file's zones
+abbrev pub kind_of : FileZones → Kind
+kind_of file = if file.seq then Sequential else Conventional
+
+-- the blocks that each zone of a file has room for
+abbrev pub zone_room_of : Shape → FileZones → ℕ
+zone_room_of shape file = room shape (kind_of file)
+
 -- the blocks that a file has room for
-abbrev pub room_of : FileZones → ℕ
-room_of file = file.zones * file.room
+abbrev pub room_of : Shape → FileZones → ℕ
+room_of shape file = file.zones * zone_room_of shape file
 
 -- the bytes that a file has room for
-abbrev pub capacity_of : FileZones → ℕ
-capacity_of file = 4096 * room_of file
+abbrev pub capacity_of : Shape → FileZones → ℕ
+capacity_of shape file = BLOCK_SIZE * room_of shape file
 
 -- ---- names
 

@@ -14,13 +14,15 @@ pub enum Policy {
     Repair,
 }
 
-/// The zones of a file: `zones` of them from `first` on, each with room for `room` blocks.
+/// The zones of a file. The blocks that it has room for follow from them and the shape of the device's zones.
 #[derive(Clone, Copy, Debug, PartialEq, Eq)]
 pub struct FileZones {
+    /// The number of the first zone.
     pub first: u32,
+    /// How many zones follow one another from the first on, that one counted.
     pub zones: u32,
-    pub room: u32,
-    pub sequential: bool,
+    /// Whether they are sequential, and the file is one of `seq`: it is written at its end alone.
+    pub seq: bool,
 }
 
 /// Where a zone is shown: in the super block's place, in a file of `cnv` or `seq`, or nowhere.

@@ -1,5 +1,5 @@
 // Laws over the definitions, each the contract of a function that does nothing.
-ghost use Rattle.zn_model.specs.RecoveryLaws.{RecoveryIsRow, RecoveryLeavesOthers, RecoveryMayRemount, RecoveryOfMounted, PolicyTable};
+ghost use Rattle.zn_model.specs.RecoveryLaws.{RecoveryIsRow, RecoveryLeavesOthers, RecoveryMayRemount, RecoveryOfMounted, RecoveryOfFailedReport, RecoveryAfterRead, RequestsEnd, PolicyTable};
 ghost use Rattle.zn_model.specs.ModelCases.{LayoutCases, AccessCases, PiecesCase, TextCases};
 
 /// A recovery sets the file's state to the policy's row.
@@ -20,6 +20,21 @@ pub fn recovery_may_remount()
 /// A recovery of a mounted volume's file, with power and no faults.
 pub fn recovery_of_mounted()
     ensures { RecoveryOfMounted }
+{}
+
+/// A recovery whose report fails.
+pub fn recovery_of_failed_report()
+    ensures { RecoveryOfFailedReport }
+{}
+
+/// A recovery after a read, which may change nothing.
+pub fn recovery_after_read()
+    ensures { RecoveryAfterRead }
+{}
+
+/// The requests that a recovery ends, and those that it leaves.
+pub fn requests_end()
+    ensures { RequestsEnd }
 {}
 
 /// The table of policies, row by row.

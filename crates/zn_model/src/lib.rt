@@ -1,14 +1,14 @@
-//! The table of zone files: what a mounted volume keeps, what its calls answer and leave, and what a script
-//! of calls writes. The definitions stand in `specs/`.
+//! The table of zone files: what a mounted volume keeps, and what its calls answer and leave. The definitions
+//! stand in `specs/`.
 #![tactic(auto)]
 
 mod answers;
 mod files;
+pub mod given_laws;
 mod handles;
 pub mod key_laws;
 pub mod laws;
-pub mod line_laws;
-mod runs;
+mod limits;
 pub mod super_laws;
 
 pub use answers::{FormatError, MountError, OptError, Outcome, Refusal, SuperError, Why};
@@ -16,4 +16,5 @@ pub use files::{
     Area, Attr, FileZones, FormatOpts, Found, MountOpts, Piece, Place, Policy, Shown, Stat,
 };
 pub use handles::{Done, Handle, Mode, Who};
-pub use runs::{Ending, Tail};
+pub use limits::{MAX_HANDLES, MAX_REQUESTS, MOST_BYTES, POOL_BLOCKS};
+pub use zn_truth::{Cond, DevError, Kind, Shape, ZoneInfo, ZoneNo, ZoneOp};

@@ -5,7 +5,7 @@ use Rattle.zn_model.proofs.key_laws.calls_keep_handles.Goals as goal
 pub returns : goal.returns
 returns c = record {
   size = λ m h. (size_keeps m h).handles;
-  read = λ m h offset len. (read_keeps m h offset len).handles;
+  read = λ given m h offset len. (read_keeps given m h offset len).handles;
   write = λ m h offset bytes. (write_keeps m h offset bytes).handles;
   truncate = λ m h size. (truncate_keeps m h size).handles;
   sync = λ m h. (sync_keeps m h).handles;

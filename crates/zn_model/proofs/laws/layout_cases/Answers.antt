@@ -19,4 +19,6 @@ returns c = record {
   joined_place = refl;
   seq_place = refl;
   last_place = refl;
+  joined_room = refl;
+  seq_capacity = refl;
 }

@@ -1,5 +1,5 @@
 use Rattle.std.proofs.Common.{refl}
-use Rattle.zn_truth.specs.Lists.{each_zone}
+use Rattle.zn_truth.specs.OrderLists.{each_zone}
 use Rattle.zn_model.proofs.laws.pieces_case.Goals as goal
 
 pub returns : goal.returns

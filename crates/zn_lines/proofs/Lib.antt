@@ -1,0 +1,9 @@
+pub mod Separated
+pub mod LineWords
+pub mod DataWords
+pub mod WordKinds
+pub mod FormatItems
+pub mod ItemWords
+pub mod LineForms
+pub mod LineReading
+pub mod ToldLines

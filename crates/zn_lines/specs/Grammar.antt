@@ -1,0 +1,342 @@
+-- The lines of the grammar: each form is a list of words. (own)
+--
+-- So far the lines that format, mount and unmount are read, those that open, close, read, write and look at files,
+-- and the changes that are never allowed. The other lines have no form yet: they are refused, at the column of the
+-- word that does not fit so far.
+use Rattle.std.specs.Prelude.{ℕ, ◌+◌, ◌-◌, ◌*◌, Bool, true, ◌&&◌, ◌||◌, ◌==◌, List, [], ◌∷◌, length, take, drop, Option, Some, None, is_some, unwrap_or, option_and_then, Result, Ok, Err, codes, nat_le, if◌then◌else◌}
+use Rattle.std.specs.List.{find, list_all, slice_split}
+use Rattle.std.specs.Option.{option_map, option_or}
+use Rattle.std.specs.Str.{bytes_eq}
+use Rattle.zn_lines.specs.declared.limits.TheConstants.{LAST_NUMBER}
+use Rattle.zn_model.specs.declared.limits.TheConstants.{MOST_BYTES}
+use Rattle.zn_base.specs.Decimals.{number_in}
+use Rattle.zn_base.specs.Runs.{Run}
+use Rattle.zn_base.specs.Texts.{◌⧺◌}
+use Rattle.zn_model.specs.declared.handles.Mode.{Mode}
+use Rattle.zn_model.specs.declared.handles.Who.{Who}
+use Rattle.zn_model.specs.Access.{reads, writes}
+use Rattle.zn_lines.specs.declared.words.Change.{Change}
+use Rattle.zn_lines.specs.declared.words.Change.TheVariants.{Create, Remove, Rename, Chmod, Chown}
+use Rattle.zn_lines.specs.declared.words.Verb.{Verb}
+use Rattle.zn_lines.specs.declared.words.Verb.TheVariants.{Mkfs as Formatting, Mount as Mounting, Umount as Unmounting, Open, Close, Size, Read, Write, Stat, List as Listing, Create as Creating, Remove as Removing, Rename as Renaming, Chmod as ChangingMode, Chown as ChangingOwner}
+use Rattle.zn_lines.specs.Lines.{FormatWords, FormatItem, Force, Label, Uuid, Features, plain_format, Line, Mkfs, Mount, Umount, OpenFile, CloseFile, SizeOf, ReadFrom, WriteTo, StatOf, ListOf, Changes}
+use Rattle.zn_lines.specs.Words.{Left, ◌>>=◌, next, optional, no_more, words_of}
+
+-- ---- limits
+
+-- the greatest offset: the greatest number of 64 bits
+abbrev pub last_offset : ℕ
+last_offset = 18446744073709551615
+
+-- the greatest mode, user and group: the greatest number of 32 bits
+abbrev pub last_u32 : ℕ
+last_u32 = 4294967295
+
+-- ---- data
+
+-- a hexadecimal digit in lower case
+abbrev pub is_hex : ℕ → Bool
+is_hex b = (nat_le 48 b && nat_le b 57) || (nat_le 97 b && nat_le b 102)
+
+-- what such a digit is worth
+abbrev pub hex_worth : ℕ → ℕ
+hex_worth b = if nat_le b 57 then b - 48 else b - 87
+
+-- a run of the byte, where its count could be read
+abbrev pub counted : ℕ → Option ℕ → Option Run
+counted byte None = None
+counted byte (Some count) = Some (record { byte = byte; count = count })
+
+-- a part HH*C: two hexadecimal digits of a byte, and how often it stands
+unfoldable pub part_of : List ℕ → Option Run
+part_of [] = None
+part_of (high ∷ []) = None
+part_of (high ∷ low ∷ []) = None
+part_of (high ∷ low ∷ star ∷ digits) =
+    if is_hex high && is_hex low && (star == 42) then counted (hex_worth high * 16 + hex_worth low) (number_in MOST_BYTES digits) else None
+
+-- the byte `+`, which joins parts
+abbrev pub is_plus : ℕ → Bool
+is_plus b = b == 43
+
+-- one run before others
+abbrev pub run_then : Run → Option (List Run) → Option (List Run)
+run_then run None = None
+run_then run (Some runs) = Some (run ∷ runs)
+
+-- one more part behind some bytes: all counts together are limited
+abbrev pub part_then : Option Run → ℕ → (ℕ → Option (List Run)) → Option (List Run)
+part_then None total follows = None
+part_then (Some run) total follows = if nat_le (total + run.count) MOST_BYTES then run_then run (follows (total + run.count)) else None
+
+-- the runs of parts, behind so many bytes; none where a part is faulty or all counts together are too many
+unfoldable pub parts_on : ℕ → List (List ℕ) → Option (List Run)
+parts_on total [] = Some []
+parts_on total (part ∷ parts) = part_then (part_of part) total (λ more. parts_on more parts)
+
+-- DATA: one or more parts, joined by plus signs
+unfoldable pub data_of : List ℕ → Option (List Run)
+data_of word = parts_on 0 (slice_split is_plus word)
+
+-- ---- paths, options and modes
+
+-- an ASCII byte from `!` to `~`, so no blank
+abbrev pub is_printable : ℕ → Bool
+is_printable b = nat_le 0x21 b && nat_le b 0x7E
+
+-- PATH and OPT: a word that isn't empty, of printable bytes
+unfoldable pub path_of : List ℕ → Option (List ℕ)
+path_of [] = None
+path_of (b ∷ bytes) = if list_all is_printable (b ∷ bytes) then Some (b ∷ bytes) else None
+
+-- r to read, w to write
+abbrev pub mode_name : Mode → List ℕ
+mode_name mode = (if reads mode then codes "r" else []) ⧺ (if writes mode then codes "w" else [])
+
+-- for reading, for writing, and for both
+abbrev pub all_modes : List Mode
+all_modes = record { 0 = 1 } ∷ record { 0 = 2 } ∷ record { 0 = 3 } ∷ []
+
+-- MODE: each by its word; any other word is none
+unfoldable pub mode_in : List ℕ → Option Mode
+mode_in word = find (λ mode. bytes_eq word (mode_name mode)) all_modes
+
+-- ---- words that begin with a key
+
+-- what stands behind a key, where the word begins with it
+unfoldable pub after_key : List ℕ → List ℕ → Option (List ℕ)
+after_key key word = if bytes_eq (take (length key) word) key then Some (drop (length key) word) else None
+
+-- a key, and an OPT behind it
+abbrev pub text_after : List ℕ → List ℕ → Option (List ℕ)
+text_after key word = option_and_then path_of (after_key key word)
+
+-- a key, and a number of a user or a group behind it
+abbrev pub user_after : List ℕ → List ℕ → Option ℕ
+user_after key word = option_and_then (number_in last_u32) (after_key key word)
+
+-- ---- users
+
+-- the key of a user
+abbrev pub uid_key : List ℕ
+uid_key = codes "uid="
+
+-- the key of a group
+abbrev pub gid_key : List ℕ
+gid_key = codes "gid="
+
+-- who opens a file: a user or a group that is left out is 0
+abbrev pub who_named : Option ℕ → Option ℕ → Who
+who_named uid gid = record { uid = unwrap_or uid 0; gid = unwrap_or gid 0 }
+
+-- the user and the group 0
+abbrev pub root : Who
+root = who_named None None
+
+-- ---- items of a format
+
+-- the item without a text
+abbrev pub force_word : List ℕ
+force_word = codes "force"
+
+-- the key of a label
+abbrev pub label_key : List ℕ
+label_key = codes "label="
+
+-- the key of an identifier
+abbrev pub uuid_key : List ℕ
+uuid_key = codes "uuid="
+
+-- the key of features
+abbrev pub features_key : List ℕ
+features_key = codes "features="
+
+-- an item with a text: the first key that fits
+unfoldable pub text_item_of : List ℕ → Option FormatItem
+text_item_of word =
+    option_or (option_map Label (text_after label_key word))
+    (option_or (option_map Uuid (text_after uuid_key word)) (option_map Features (text_after features_key word)))
+
+-- an item of a format; any other word is none
+unfoldable pub item_of : List ℕ → Option FormatItem
+item_of word = if bytes_eq word force_word then Some Force else text_item_of word
+
+-- one item more, unless there is one of its kind
+unfoldable pub with_item : FormatWords → FormatItem → Option FormatWords
+with_item words Force = if words.force then None else Some (record words { force = true })
+with_item words (Label text) = if is_some words.label then None else Some (record words { label = Some text })
+with_item words (Uuid text) = if is_some words.uuid then None else Some (record words { uuid = Some text })
+with_item words (Features text) = if is_some words.features then None else Some (record words { features = Some text })
+
+-- a word as one item more
+abbrev pub item_after : FormatWords → List ℕ → Option FormatWords
+item_after found word = option_and_then (with_item found) (item_of word)
+
+-- one item more and then the others, or the column where its word does not fit
+abbrev pub item_then : Option FormatWords → ℕ → (FormatWords → Result FormatWords ℕ) → Result FormatWords ℕ
+item_then None column follows = Err column
+item_then (Some found) column follows = follows found
+
+-- each word that is left is one item more
+unfoldable pub items_on : FormatWords → ℕ → List (List ℕ) → Result FormatWords ℕ
+items_on found column [] = Ok found
+items_on found column (word ∷ words) =
+    item_then (item_after found word) column (λ more. items_on more (column + length word + 1) words)
+
+-- ---- lines
+
+-- the word of a verb
+abbrev pub verb_name : Verb → List ℕ
+verb_name Formatting = codes "mkfs"
+verb_name Mounting = codes "mount"
+verb_name Unmounting = codes "umount"
+verb_name Open = codes "open"
+verb_name Close = codes "close"
+verb_name Size = codes "size"
+verb_name Read = codes "read"
+verb_name Write = codes "write"
+verb_name Stat = codes "stat"
+verb_name Listing = codes "list"
+verb_name Creating = codes "create"
+verb_name Removing = codes "remove"
+verb_name Renaming = codes "rename"
+verb_name ChangingMode = codes "chmod"
+verb_name ChangingOwner = codes "chown"
+
+-- all verbs so far
+abbrev pub all_verbs : List Verb
+all_verbs =
+    Formatting ∷ Mounting ∷ Unmounting ∷ Open ∷ Close ∷ Size ∷ Read ∷ Write ∷ Stat ∷ Listing
+    ∷ Creating ∷ Removing ∷ Renaming ∷ ChangingMode ∷ ChangingOwner ∷ []
+
+-- each verb by its word; any other word is none
+unfoldable pub verb_of : List ℕ → Option Verb
+verb_of word = find (λ verb. bytes_eq word (verb_name verb)) all_verbs
+
+-- mkfs, and any of force, label=OPT, uuid=OPT and features=OPT
+unfoldable pub mkfs_line : Left → Result Line ℕ
+mkfs_line left = do
+  words ← items_on plain_format left.column left.words
+  Ok (Mkfs words)
+
+-- mount, mount OPT
+unfoldable pub mount_line : Left → Result Line ℕ
+mount_line left = do
+  text ← optional path_of left
+  no_more (Mount text.0) text.1
+
+-- umount
+unfoldable pub umount_line : Left → Result Line ℕ
+umount_line left = no_more Umount left
+
+-- open N PATH MODE, and then optionally uid=U32, and then optionally gid=U32
+unfoldable pub open_line : Left → Result Line ℕ
+open_line left = do
+  number ← next (number_in LAST_NUMBER) left
+  path ← next path_of number.1
+  mode ← next mode_in path.1
+  uid ← optional (user_after uid_key) mode.1
+  gid ← optional (user_after gid_key) uid.1
+  no_more (OpenFile number.0 path.0 mode.0 (who_named uid.0 gid.0)) gid.1
+
+-- close N
+unfoldable pub close_line : Left → Result Line ℕ
+close_line left = do
+  number ← next (number_in LAST_NUMBER) left
+  no_more (CloseFile number.0) number.1
+
+-- size N
+unfoldable pub size_line : Left → Result Line ℕ
+size_line left = do
+  number ← next (number_in LAST_NUMBER) left
+  no_more (SizeOf number.0) number.1
+
+-- read N NUM LEN
+unfoldable pub read_line : Left → Result Line ℕ
+read_line left = do
+  number ← next (number_in LAST_NUMBER) left
+  offset ← next (number_in last_offset) number.1
+  len ← next (number_in MOST_BYTES) offset.1
+  no_more (ReadFrom number.0 offset.0 len.0) len.1
+
+-- write N NUM DATA
+unfoldable pub write_line : Left → Result Line ℕ
+write_line left = do
+  number ← next (number_in LAST_NUMBER) left
+  offset ← next (number_in last_offset) number.1
+  runs ← next data_of offset.1
+  no_more (WriteTo number.0 offset.0 runs.0) runs.1
+
+-- stat PATH
+unfoldable pub stat_line : Left → Result Line ℕ
+stat_line left = do
+  path ← next path_of left
+  no_more (StatOf path.0) path.1
+
+-- list PATH
+unfoldable pub list_line : Left → Result Line ℕ
+list_line left = do
+  path ← next path_of left
+  no_more (ListOf path.0) path.1
+
+-- create PATH, remove PATH
+unfoldable pub path_change : Change → Left → Result Line ℕ
+path_change change left = do
+  path ← next path_of left
+  no_more (Changes change) path.1
+
+-- rename PATH PATH
+unfoldable pub rename_line : Left → Result Line ℕ
+rename_line left = do
+  from ← next path_of left
+  to ← next path_of from.1
+  no_more (Changes Rename) to.1
+
+-- chmod PATH U32
+unfoldable pub chmod_line : Left → Result Line ℕ
+chmod_line left = do
+  path ← next path_of left
+  mode ← next (number_in last_u32) path.1
+  no_more (Changes Chmod) mode.1
+
+-- chown PATH U32 U32
+unfoldable pub chown_line : Left → Result Line ℕ
+chown_line left = do
+  path ← next path_of left
+  uid ← next (number_in last_u32) path.1
+  gid ← next (number_in last_u32) uid.1
+  no_more (Changes Chown) gid.1
+
+-- what stands behind a verb is read by the form of that verb
+abbrev pub line_with : Verb → Left → Result Line ℕ
+line_with Formatting left = mkfs_line left
+line_with Mounting left = mount_line left
+line_with Unmounting left = umount_line left
+line_with Open left = open_line left
+line_with Close left = close_line left
+line_with Size left = size_line left
+line_with Read left = read_line left
+line_with Write left = write_line left
+line_with Stat left = stat_line left
+line_with Listing left = list_line left
+line_with Creating left = path_change Create left
+line_with Removing left = path_change Remove left
+line_with Renaming left = rename_line left
+line_with ChangingMode left = chmod_line left
+line_with ChangingOwner left = chown_line left
+
+-- the line that words are, or the column of the first word that does not fit
+unfoldable pub line_of : List ℕ → Result Line ℕ
+line_of bytes = do
+  verb ← next verb_of (words_of bytes)
+  line_with verb.0 verb.1
+
+-- some line, where one was read; the column of a fault stays
+abbrev pub some_line : Result Line ℕ → Result (Option Line) ℕ
+some_line (Ok line) = Ok (Some line)
+some_line (Err column) = Err column
+
+-- A line of a script: none where it is empty or a comment, which begins with `#`; these have no reply.
+unfoldable pub reading_of : List ℕ → Result (Option Line) ℕ
+reading_of [] = Ok None
+reading_of (b ∷ bytes) = if b == 35 then Ok None else some_line (line_of (b ∷ bytes))

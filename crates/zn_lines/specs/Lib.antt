@@ -1,0 +1,13 @@
+pub mod Lines
+pub mod Memory
+pub mod Words
+pub mod Grammar
+pub mod LineTexts
+pub mod LineLaws
+pub mod LineCases
+pub mod ReplyTexts
+pub mod Table
+pub mod Session
+pub mod Transcript
+pub mod Scratch
+pub mod ToldLaws

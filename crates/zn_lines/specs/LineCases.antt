@@ -1,0 +1,167 @@
+-- Lines and numbers, and what they are read as. (own)
+use Rattle.std.specs.Prelude.{◌≡◌, true, [], ◌∷◌, Some, None, Ok, Err, codes}
+use Rattle.zn_model.specs.declared.limits.TheConstants.{MOST_BYTES}
+use Rattle.zn_lines.specs.declared.words.Change.TheVariants.{Create, Rename, Chmod, Chown}
+use Rattle.zn_lines.specs.Lines.{FormatWords, plain_format, Line, Mkfs, Mount, Umount, OpenFile, CloseFile, SizeOf, ReadFrom, WriteTo, StatOf, ListOf, Changes}
+use Rattle.zn_base.specs.Decimals.{number_in}
+use Rattle.zn_lines.specs.Grammar.{last_offset, last_u32, who_named, root, line_of, reading_of}
+use Rattle.zn_lines.specs.LineTexts.{line_text}
+
+-- ---- lines
+
+-- the user 0 opens `seq/0` as handle 0, for reading and writing
+abbrev pub open_both : Line
+open_both = OpenFile 0 (codes "seq/0") (record { 0 = 3 }) root
+
+-- the user 1000 and the group 100 open it for reading
+abbrev pub open_as : Line
+open_as = OpenFile 0 (codes "seq/0") (record { 0 = 1 }) (who_named (Some 1000) (Some 100))
+
+-- the greatest user opens it for both
+abbrev pub open_as_last : Line
+open_as_last = OpenFile 0 (codes "seq/0") (record { 0 = 3 }) (who_named (Some last_u32) None)
+
+-- the user 0 and the group 7 open it for both
+abbrev pub open_as_group : Line
+open_as_group = OpenFile 0 (codes "seq/0") (record { 0 = 3 }) (who_named None (Some 7))
+
+-- all that a format can be asked for
+abbrev pub all_asked : FormatWords
+all_asked =
+    record { force = true; label = Some (codes "data"); uuid = Some (codes "u"); features = Some (codes "aggr_cnv") }
+
+-- a read of the greatest handle number, offset and length
+abbrev pub read_last : Line
+read_last = ReadFrom 2047 last_offset MOST_BYTES
+
+-- one block of the byte 0x61, at offset 0
+abbrev pub write_one : Line
+write_one = WriteTo 0 0 (record { byte = 0x61; count = 4096 } ∷ [])
+
+-- two runs at offset 4096: the byte 0x0a no times, and the byte 0xff once
+abbrev pub write_two : Line
+write_two = WriteTo 0 4096 (record { byte = 0x0a; count = 0 } ∷ record { byte = 0xff; count = 1 } ∷ [])
+
+-- lines that are read
+pub record LinesRead : Type 0 where
+  pub opening : line_of (codes "open 0 seq/0 rw") ≡ Ok open_both
+  pub close : line_of (codes "close 7") ≡ Ok (CloseFile 7)
+  pub size : line_of (codes "size 0") ≡ Ok (SizeOf 0)
+  pub read : line_of (codes "read 0 0 4096") ≡ Ok (ReadFrom 0 0 4096)
+  pub read_last : line_of (codes "read 2047 18446744073709551615 1048576") ≡ Ok read_last
+  pub write_one : line_of (codes "write 0 0 61*4096") ≡ Ok write_one
+  pub write_two : line_of (codes "write 0 4096 0a*0+ff*1") ≡ Ok write_two
+  pub stat : line_of (codes "stat /") ≡ Ok (StatOf (codes "/"))
+  pub listing : line_of (codes "list #") ≡ Ok (ListOf (codes "#"))
+  pub create : line_of (codes "create cnv/9") ≡ Ok (Changes Create)
+  pub rename : line_of (codes "rename cnv/0 cnv/1") ≡ Ok (Changes Rename)
+  pub chmod : line_of (codes "chmod cnv/0 438") ≡ Ok (Changes Chmod)
+  pub chown : line_of (codes "chown cnv/0 4294967295 0") ≡ Ok (Changes Chown)
+
+-- lines that format, mount and unmount; the items of a format are read in any order
+pub record FormatsRead : Type 0 where
+  pub plain : line_of (codes "mkfs") ≡ Ok (Mkfs plain_format)
+  pub force : line_of (codes "mkfs force") ≡ Ok (Mkfs (record plain_format { force = true }))
+  pub label : line_of (codes "mkfs label=a=b") ≡ Ok (Mkfs (record plain_format { label = Some (codes "a=b") }))
+  pub all : line_of (codes "mkfs force label=data uuid=u features=aggr_cnv") ≡ Ok (Mkfs all_asked)
+  pub another_order : line_of (codes "mkfs features=aggr_cnv uuid=u force label=data") ≡ Ok (Mkfs all_asked)
+  pub mount : line_of (codes "mount") ≡ Ok (Mount None)
+  pub mount_with : line_of (codes "mount explicit-open") ≡ Ok (Mount (Some (codes "explicit-open")))
+  pub umount : line_of (codes "umount") ≡ Ok Umount
+
+-- who opens: a user or a group that is left out is 0
+pub record UsersRead : Type 0 where
+  pub both : line_of (codes "open 0 seq/0 r uid=1000 gid=100") ≡ Ok open_as
+  pub user : line_of (codes "open 0 seq/0 rw uid=4294967295") ≡ Ok open_as_last
+  pub group : line_of (codes "open 0 seq/0 rw gid=7") ≡ Ok open_as_group
+  pub zeros : line_of (codes "open 0 seq/0 rw uid=0 gid=0") ≡ Ok open_both
+
+-- the plain texts of lines
+pub record LinesWritten : Type 0 where
+  pub format : line_text (Mkfs all_asked) ≡ codes "mkfs force label=data uuid=u features=aggr_cnv"
+  pub mount : line_text (Mount None) ≡ codes "mount"
+  pub opening : line_text open_both ≡ codes "open 0 seq/0 rw"
+  pub opening_as : line_text open_as ≡ codes "open 0 seq/0 r uid=1000 gid=100"
+  pub size : line_text (SizeOf 0) ≡ codes "size 0"
+  pub read : line_text (ReadFrom 0 0 4096) ≡ codes "read 0 0 4096"
+  pub read_last : line_text read_last ≡ codes "read 2047 18446744073709551615 1048576"
+  pub write_one : line_text write_one ≡ codes "write 0 0 61*4096"
+  pub write_two : line_text write_two ≡ codes "write 0 4096 0a*0+ff*1"
+
+-- ---- lines that are refused, each at the column of the first word that does not fit
+
+-- an empty line, and first words that are no verb: always column 1
+pub record VerbsRefused : Type 0 where
+  pub nothing : line_of [] ≡ Err 1
+  pub other : line_of (codes "sizes 0") ≡ Err 1
+  pub capital : line_of (codes "Size 0") ≡ Err 1
+  pub blank_before : line_of (codes " size 0") ≡ Err 1
+
+-- words behind a verb that are missing, one too many, or not of their form
+pub record WordsRefused : Type 0 where
+  pub missing_handle : line_of (codes "size") ≡ Err 5
+  pub two_blanks : line_of (codes "size  0") ≡ Err 6
+  pub leading_zero : line_of (codes "size 00") ≡ Err 6
+  pub handle_too_large : line_of (codes "size 2048") ≡ Err 6
+  pub blank_behind : line_of (codes "size 0 ") ≡ Err 8
+  pub one_too_many : line_of (codes "size 0 0") ≡ Err 8
+  pub missing_offset : line_of (codes "read 0") ≡ Err 7
+  pub offset_too_large : line_of (codes "read 0 18446744073709551616 0") ≡ Err 8
+  pub length_too_large : line_of (codes "read 0 0 1048577") ≡ Err 10
+  pub mode_the_other_way : line_of (codes "open 0 seq/0 wr") ≡ Err 14
+  pub path_not_printable : line_of (codes "stat a\tb") ≡ Err 6
+  pub user_too_large : line_of (codes "chown cnv/0 4294967296 0") ≡ Err 13
+
+-- items of a format that are none, that repeat, or that lack their text
+pub record FormatsRefused : Type 0 where
+  pub no_item : line_of (codes "mkfs forced") ≡ Err 6
+  pub repeated_force : line_of (codes "mkfs force force") ≡ Err 12
+  pub repeated_label : line_of (codes "mkfs label=a force label=b") ≡ Err 20
+  pub empty_label : line_of (codes "mkfs label=") ≡ Err 6
+  pub blank_behind : line_of (codes "mkfs force ") ≡ Err 12
+  pub options_not_printable : line_of (codes "mount a\tb") ≡ Err 7
+  pub empty_options : line_of (codes "mount ") ≡ Err 7
+  pub options_twice : line_of (codes "mount explicit-open explicit-open") ≡ Err 21
+  pub umount_with : line_of (codes "umount now") ≡ Err 8
+
+-- users and groups in another order, twice, or that are no numbers
+pub record UsersRefused : Type 0 where
+  pub group_first : line_of (codes "open 0 seq/0 r gid=1 uid=1") ≡ Err 22
+  pub user_twice : line_of (codes "open 0 seq/0 r uid=1 uid=1") ≡ Err 22
+  pub group_twice : line_of (codes "open 0 seq/0 r gid=1 gid=1") ≡ Err 22
+  pub user_too_large : line_of (codes "open 0 seq/0 r uid=4294967296") ≡ Err 16
+  pub empty_group : line_of (codes "open 0 seq/0 r uid=1 gid=") ≡ Err 22
+  pub missing_mode : line_of (codes "open 0 seq/0 uid=1") ≡ Err 14
+  pub one_too_many : line_of (codes "open 0 seq/0 r uid=1 gid=1 x") ≡ Err 28
+
+-- faulty data of a write: the column is where the data begins, whichever part is at fault
+pub record DataRefused : Type 0 where
+  pub half_a_byte : line_of (codes "write 0 0 6*1") ≡ Err 11
+  pub capital_digit : line_of (codes "write 0 0 6A*1") ≡ Err 11
+  pub no_count : line_of (codes "write 0 0 61*") ≡ Err 11
+  pub no_second_part : line_of (codes "write 0 0 61*1+") ≡ Err 11
+  pub count_too_large : line_of (codes "write 0 0 61*1048577") ≡ Err 11
+  pub counts_too_large : line_of (codes "write 0 0 61*1048576+62*1") ≡ Err 11
+
+-- ---- comments
+
+-- empty lines and comments have no reply; a comment does not stand behind blanks
+pub record CommentsRead : Type 0 where
+  pub nothing : reading_of [] ≡ Ok None
+  pub comment : reading_of (codes "# size 0") ≡ Ok None
+  pub mark : reading_of (codes "#") ≡ Ok None
+  pub line : reading_of (codes "size 0") ≡ Ok (Some (SizeOf 0))
+  pub blank_before : reading_of (codes " # size 0") ≡ Err 1
+
+-- ---- numbers
+
+-- the least and greatest numbers, and words that are none
+pub record NumbersRead : Type 0 where
+  pub least : number_in last_offset (codes "0") ≡ Some 0
+  pub greatest : number_in last_offset (codes "18446744073709551615") ≡ Some last_offset
+  pub one_more : number_in last_offset (codes "18446744073709551616") ≡ None
+  pub nothing : number_in last_offset [] ≡ None
+  pub two_zeros : number_in last_offset (codes "00") ≡ None
+  pub leading_zero : number_in last_offset (codes "01") ≡ None
+  pub sign : number_in last_offset (codes "+1") ≡ None
+  pub letter : number_in last_offset (codes "1a") ≡ None

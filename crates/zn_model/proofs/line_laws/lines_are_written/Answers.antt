@@ -1,8 +1,0 @@
-use Rattle.std.proofs.Common.{refl}
-use Rattle.std.specs.Fmt.{digits}
-use Rattle.zn_model.specs.LineTexts.{line_words}
-use Rattle.zn_model.proofs.line_laws.lines_are_written.Goals as goal
-
-pub returns : goal.returns
-unfolding digits line_words
-returns c = record { opening = refl; size = refl; read = refl; read_last = refl; write_one = refl; write_two = refl }

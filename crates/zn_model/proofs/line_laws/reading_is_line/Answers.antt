@@ -1,5 +1,0 @@
-use Rattle.zn_model.proofs.LineReading.{reading_is_line}
-use Rattle.zn_model.proofs.line_laws.reading_is_line.Goals as goal
-
-pub returns : goal.returns
-returns c = reading_is_line
