@@ -1,0 +1,4 @@
+pub mod ValueLaws
+pub mod ItemPlaces
+pub mod ItemLists
+pub mod Permissions
