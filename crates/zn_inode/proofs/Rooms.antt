@@ -1,11 +1,20 @@
 -- The room of a file, and sizes within it.
 use Rattle.std.proofs.Common.{ℕ, ◌-◌, ◌*◌, ◌^◌, ◌<◌, ◌≤◌, Bool, arith}
 use Rattle.std.proofs.lemmas.Nat.{mul-le}
+use Rattle.std.specs.Prelude.{not, ◌&&◌, ◌==◌}
+use Rattle.zn_truth.specs.declared.limits.TheConstants.{BLOCK_SIZE}
 use Rattle.zn_truth.specs.declared.Cond.{Cond}
 use Rattle.zn_truth.specs.declared.Cond.TheVariants.{Good, ReadOnly, Offline}
+use Rattle.zn_truth.specs.declared.Shape.{Shape}
+use Rattle.zn_truth.specs.Truth.{is_good}
 use Rattle.zn_model.specs.declared.files.Policy.{Policy}
 use Rattle.zn_model.specs.declared.files.Policy.TheVariants.{RemountRo, ZoneRo, ZoneOffline, Repair}
+use Rattle.zn_model.specs.declared.files.FileZones.{FileZones}
+use Rattle.zn_model.specs.declared.files.Found.{Found}
+use Rattle.zn_model.specs.declared.files.Shown.{Shown}
+use Rattle.zn_model.specs.ZoneFiles.{room_of, capacity_of}
 use Rattle.zn_model.specs.ShownStates.{policy_row}
+use Rattle.zn_model.specs.Recovery.{recovered_shown}
 
 pub room_below : (zones room : ℕ) → zones < 2 ^ 32 → room < 2 ^ 32 → zones * room < 2 ^ 64
 room_below zones room h k = omega (arith, mul-le zones room (2 ^ 32 - 1) (2 ^ 32 - 1) (omega arith) (omega arith))
@@ -24,3 +33,9 @@ row_within ZoneOffline Offline held size most stays_open h k = omega arith
 row_within Repair Good held size most stays_open h k = h
 row_within Repair ReadOnly held size most stays_open h k = k
 row_within Repair Offline held size most stays_open h k = omega arith
+
+-- what a recovery shows is within the room of the file, where what is found and what was shown are
+pub recovered_within : (policy : Policy) (found : Found) (shape : Shape) (file : FileZones) (shown : Shown) → found.held ≤ room_of shape file → shown.size ≤ capacity_of shape file
+    → (recovered_shown policy found shape file shown).size ≤ capacity_of shape file
+recovered_within policy found shape file shown held size =
+    row_within policy found.cond (BLOCK_SIZE * found.held) shown.size (capacity_of shape file) (shown.held_open && is_good found.cond && not (found.held == room_of shape file)) (omega (arith, held)) size

@@ -3,9 +3,11 @@
 
 mod inodes;
 mod shown;
+#[cfg(test)]
+mod tests;
 
 pub use inodes::Inodes;
 pub use shown::{
     capacity, holds, makes_read_only, mounted_shown, policy_row, recovered_shown, room, worse,
-    worst,
+    worst, zone_room,
 };

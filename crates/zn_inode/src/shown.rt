@@ -1,26 +1,38 @@
 // What a file shows, by what its zones tell.
-ghost use Rattle.std.specs.Prelude.{◌≡◌, ℕ, ◌*◌, ◌^◌, ◌<◌, ◌≤◌, length};
-ghost use Rattle.zn_model.specs.ZoneFiles.{room_of, capacity_of};
+ghost use Rattle.std.specs.Prelude.{◌≡◌, ◌*◌, ◌^◌, ◌<◌, ◌≤◌, length};
+ghost use Rattle.zn_truth.specs.declared.limits.TheConstants.{MAX_ZONES};
+ghost use Rattle.zn_model.specs.ZoneFiles.{zone_room_of, room_of, capacity_of};
 ghost use Rattle.zn_model.specs.ShownStates.{policy_row as row_of, worst as worst_of, worse as worse_of, holds as holds_of, mounted_by, makes_read_only as policy_makes_read_only};
 ghost use Rattle.zn_model.specs.Recovery.{recovered_shown as shown_recovered};
 
-use zn_model::{FileZones, Found, Policy, Shown};
-use zn_truth::{Cond, ZoneInfo};
+use zn_model::{Cond, FileZones, Found, Policy, Shape, Shown, ZoneInfo};
+use zn_truth::BLOCK_SIZE;
+
+/// The blocks that each zone of a file has room for.
+pub fn zone_room(shape: &Shape, file: &FileZones) -> u32
+    ensures { result ≡ zone_room_of shape.now file.now }
+{
+    if file.seq {
+        shape.zone_capacity
+    } else {
+        shape.zone_blocks
+    }
+}
 
 /// The blocks that a file has room for.
 #[tactic(auto, using(crate::proofs::Rooms::room_below))]
-pub fn room(file: &FileZones) -> u64
-    ensures { result ≡ room_of file.now }
+pub fn room(shape: &Shape, file: &FileZones) -> u64
+    ensures { result ≡ room_of shape.now file.now }
 {
-    u64::from(file.zones) * u64::from(file.room)
+    u64::from(file.zones) * u64::from(zone_room(shape, file))
 }
 
 /// The bytes that a file has room for.
-pub fn capacity(file: &FileZones) -> u64
-    requires { capacity_of file.now < 2 ^ 64 }
-    ensures { result ≡ capacity_of file.now }
+pub fn capacity(shape: &Shape, file: &FileZones) -> u64
+    requires { capacity_of shape.now file.now < 2 ^ 64 }
+    ensures { result ≡ capacity_of shape.now file.now }
 {
-    4096 * room(file)
+    BLOCK_SIZE as u64 * room(shape, file)
 }
 
 /// The row of the table of policies: sizes are in bytes.
@@ -73,9 +85,9 @@ pub fn worst(infos: &[ZoneInfo]) -> Cond
 
 /// The blocks that zones hold.
 pub fn holds(infos: &[ZoneInfo]) -> u64
-    requires { length infos.now ≤ 4096 }
+    requires { length infos.now ≤ MAX_ZONES }
     ensures sum { result ≡ holds_of infos.now }
-    ensures most { 4096 * result < 2 ^ 64 }
+    ensures most { BLOCK_SIZE * result < 2 ^ 64 }
 {
     let mut held = 0;
     for info in infos {
@@ -86,12 +98,12 @@ pub fn holds(infos: &[ZoneInfo]) -> u64
 
 /// What a mount shows of a file whose zones are these.
 pub fn mounted_shown(infos: &[ZoneInfo]) -> Shown
-    requires { length infos.now ≤ 4096 }
-    ensures { result ≡ mounted_by (worst_of infos.now) (4096 * holds_of infos.now) }
+    requires { length infos.now ≤ MAX_ZONES }
+    ensures { result ≡ mounted_by (worst_of infos.now) (BLOCK_SIZE * holds_of infos.now) }
 {
     match worst(infos) {
         Cond::Good => Shown {
-            size: 4096 * holds(infos),
+            size: BLOCK_SIZE as u64 * holds(infos),
             may_read: true,
             may_write: true,
             held_open: false,
@@ -106,15 +118,21 @@ pub fn mounted_shown(infos: &[ZoneInfo]) -> Shown
 }
 
 /// What a file shows after this was found of its zones.
-pub fn recovered_shown(policy: Policy, found: &Found, file: &FileZones, shown: &Shown) -> Shown
-    requires { 4096 * found.now.held < 2 ^ 64 }
-    ensures { result ≡ shown_recovered policy found.now file.now shown.now }
+pub fn recovered_shown(
+    policy: Policy,
+    found: &Found,
+    shape: &Shape,
+    file: &FileZones,
+    shown: &Shown,
+) -> Shown
+    requires { BLOCK_SIZE * found.now.held < 2 ^ 64 }
+    ensures { result ≡ shown_recovered policy found.now shape.now file.now shown.now }
 {
-    let stays_open = shown.held_open && found.cond == Cond::Good && found.held != room(file);
+    let stays_open = shown.held_open && found.cond == Cond::Good && found.held != room(shape, file);
     policy_row(
         policy,
         found.cond,
-        4096 * found.held,
+        BLOCK_SIZE as u64 * found.held,
         shown.size,
         stays_open,
     )
