@@ -1,7 +1,7 @@
 -- The live handle of a generation, in the slots of a slab.
 use Rattle.std.proofs.Common.{◌≡◌, ◌≢◌, ℕ, zero, suc, ◌+◌, ◌==◌, true, List, [], ◌∷◌, Option, Some, None, refl, ap, ◌∙◌, inl, inr, arith, add-zero, get_or}
 use Rattle.std.proofs.lemmas.Bool.{cases_Bool, eqb-true, eq-eqb, ne_eqb}
-use Rattle.zn_model.specs.Table.{Live}
+use Rattle.zn_model.specs.Volume.{Live}
 use Rattle.zn_handle.specs.declared.handles.Entry.{Entry}
 use Rattle.zn_handle.specs.Slots.{live_of, of_generation}
 

@@ -3,10 +3,11 @@ use Rattle.std.proofs.Common.{◌≡◌, ◌≢◌, ℕ, ◌+◌, ◌<◌, ◌�
 use Rattle.std.proofs.lemmas.Bool.{cases_eq}
 use Rattle.std.proofs.lemmas.List.{get_or-replicate, length-replicate}
 use Rattle.std.proofs.lemmas.List.Sums.{sum_by-cons, sum_by-append, sum_by_push}
+use Rattle.zn_model.specs.declared.limits.TheConstants.{MAX_HANDLES}
 use Rattle.slab.specs.Slab.{Slab, get, slab_len, Updates}
 use Rattle.zn_model.specs.declared.handles.Handle.{Handle}
 use Rattle.zn_model.specs.Access.{writes}
-use Rattle.zn_model.specs.Table.{Live, Handles, is_same_handle, with_live, without_live, writers_of, max_handles}
+use Rattle.zn_model.specs.Volume.{Live, Handles, is_same_handle, with_live, without_live, writers_of}
 use Rattle.zn_handle.specs.declared.handles.Entry.{Entry}
 use Rattle.zn_handle.specs.declared.handles.Handles.TheInside.{Inside}
 use Rattle.zn_handle.specs.Slots.{live_of, of_generation, IsApart}
@@ -36,7 +37,7 @@ module _ (slots : Slab Entry) (writers : Counts) (empty : slots.slots ≡ []) wh
       let first = ap (λ w. w.cnv) zeros in
       rw (handles_of_none, count, first) refl
 
-  pub kept_none : (files : ℕ) → writers.counts ≡ replicate files 0 → writers.cnv ≤ files → max_handles ≤ slots.capacity → slots.capacity ≤ 2 ^ 32 → IsKept (record { slots = slots; opened = 0; writers = writers })
+  pub kept_none : (files : ℕ) → writers.counts ≡ replicate files 0 → writers.cnv ≤ files → MAX_HANDLES ≤ slots.capacity → slots.capacity ≤ 2 ^ 32 → IsKept (record { slots = slots; opened = 0; writers = writers })
   kept_none files zeros some room keys =
       let none = ap (λ handles. length handles.live) handles_of_none in
       record {
@@ -62,7 +63,7 @@ module _ (slots : Slab Entry) (writers : Counts) (empty : slots.slots ≡ []) wh
 
 -- ---- the fields after a handle was opened
 
-module _ (a : Inside) (kept : IsKept a) (slots : Slab Entry) (writers : Counts) (key : ℕ) (e : Entry) (room : length (handles_of a).live < max_handles) (last : e.generation ≡ a.opened) (file : e.file < length a.writers.counts) (vacant : get a.slots key ≡ None) (put : Updates a.slots slots key (Some e)) (len : slab_len slots ≡ slab_len a.slots + 1) (capacity : slots.capacity ≡ a.slots.capacity) (more : IsOneMore a.writers writers e.file e.mode) where
+module _ (a : Inside) (kept : IsKept a) (slots : Slab Entry) (writers : Counts) (key : ℕ) (e : Entry) (room : length (handles_of a).live < MAX_HANDLES) (last : e.generation ≡ a.opened) (file : e.file < length a.writers.counts) (vacant : get a.slots key ≡ None) (put : Updates a.slots slots key (Some e)) (len : slab_len slots ≡ slab_len a.slots + 1) (capacity : slots.capacity ≡ a.slots.capacity) (more : IsOneMore a.writers writers e.file e.mode) where
   pub handles_of_put : handles_of (record { slots = slots; opened = a.opened + 1; writers = writers }) ≡ with_live (handles_of a) (live_of key e)
   handles_of_put =
       ap (λ live. record { live = live; opened = a.opened + 1 }) (lives_of_put a.slots slots key a.opened e kept.apart last vacant put)

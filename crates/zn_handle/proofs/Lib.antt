@@ -3,4 +3,3 @@ pub mod Generations
 pub mod SlotSteps
 pub mod WriterLaws
 pub mod KeptLaws
-pub mod SequentialFiles

@@ -4,7 +4,7 @@ use Rattle.std.proofs.lemmas.Bool.{cases_eq, eqb-true, eq-eqb, ne_eqb, and_parts
 use Rattle.std.specs.Option.{option_to_list}
 use Rattle.slab.specs.Slab.{Slab, get, Updates}
 use Rattle.zn_model.specs.declared.handles.Handle.{Handle}
-use Rattle.zn_model.specs.Table.{Live, is_same_handle}
+use Rattle.zn_model.specs.Volume.{Live, is_same_handle}
 use Rattle.zn_handle.specs.declared.handles.Entry.{Entry}
 use Rattle.zn_handle.specs.Slots.{live_of, of_generation, lives, IsApart}
 use Rattle.zn_handle.proofs.Told.{told-more, told-same, told-filter, find-told_none, filter-told_none, others_stay, Split, told_split, All-told, rising-told}

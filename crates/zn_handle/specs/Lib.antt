@@ -1,4 +1,4 @@
 pub mod Kept
-pub mod Seen
+pub mod HandleState
 pub mod Slots
 pub mod Writers

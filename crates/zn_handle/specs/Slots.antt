@@ -1,7 +1,7 @@
 -- The live handles that the slots of a slab stand for. No public clause cites this module.
 use Rattle.std.specs.Prelude.{◌≡◌, ℕ, ◌+◌, ◌<◌, ◌==◌, List, [], ◌∷◌, Option, Some, None, if◌then◌else◌, filter_map, slice_index_or}
 use Rattle.std.specs.List.{range_with_len}
-use Rattle.zn_model.specs.Table.{Live}
+use Rattle.zn_model.specs.Volume.{Live}
 use Rattle.zn_handle.specs.declared.handles.Entry.{Entry}
 
 -- the live handle that an entry under a key stands for

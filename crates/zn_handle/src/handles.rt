@@ -2,18 +2,15 @@
 ghost use Rattle.std.specs.Prelude.{◌≡◌, ◌≢◌, ◌+◌, ◌<◌, ◌≤◌, ◌↔◌, ◌^◌, [], length, IsErr, IfOk, OnOk, OnErr, IfSome, IfNone, Some, All, AllPairs};
 ghost use Rattle.std.specs.Option.{option_map};
 ghost use Rattle.slab.specs.Slab.{get};
-ghost use Rattle.zn_model.specs.Table.{live_at, with_live, without_live, writers_of, max_handles};
+ghost use Rattle.zn_model.specs.Volume.{live_at, with_live, without_live, writers_of};
 ghost use Rattle.zn_handle.specs.declared.handles.Entry.{Entry};
-ghost use Rattle.zn_handle.specs.Seen.{open_of, wro_of};
+ghost use Rattle.zn_handle.specs.HandleState.{open_of, wro_of};
 
 use crate::writers::Writers;
 use slab::Slab;
 use std::alloc::{AllocError, Global};
 use std::marker::Model;
-use zn_model::{Handle, Mode};
-
-// The greatest number of live handles.
-const MAX_HANDLES: usize = 1024;
+use zn_model::{Handle, MAX_HANDLES, Mode};
 
 // How many keys 32 bits can tell apart.
 const MAX_KEYS: usize = 1 << 32;
@@ -46,9 +43,9 @@ pub struct Handles {
 }
 
 impl Model for Handles {
-    ghost use Rattle.zn_handle.specs.Seen.{Seen};
+    ghost use Rattle.zn_handle.specs.HandleState.{HandleState};
 
-    ghost Value = { Seen };
+    ghost Value = { HandleState };
 
     ghost use Rattle.zn_handle.specs.Kept.{seen_of, IsKept};
 
@@ -60,10 +57,10 @@ impl Model for Handles {
 // Empty slots with room for each handle. Their keys fit 32 bits.
 fn empty_slots(alloc: Global) -> Result<Slab<Entry>, AllocError>
     ensures empty { IfOk result (λ s. s.slots ≡ []) }
-    ensures room { IfOk result (λ s. max_handles ≤ s.capacity) }
+    ensures room { IfOk result (λ s. MAX_HANDLES ≤ s.capacity) }
     ensures keys { IfOk result (λ s. s.capacity ≤ 2 ^ 32) }
 {
-    let slots = Slab::with_capacity(alloc, MAX_HANDLES)?;
+    let slots = Slab::with_capacity(alloc, MAX_HANDLES as usize)?;
     if slots.capacity() > MAX_KEYS {
         return Err(AllocError);
     }
@@ -84,7 +81,11 @@ impl Handles {
     /// No handles, with room for 1,024. The first `cnv` of the files are conventional.
     pub fn new(alloc: Global, cnv: u32, files: u32) -> Result<Handles, AllocError>
         requires { cnv ≤ files }
-        ensures { IfOk result (λ h. h ≡ record { handles = record { live = []; opened = 0 }; cnv = cnv; files = files }) }
+        ensures { IfOk result (λ h. h ≡ record {
+          handles = record { live = []; opened = 0 };
+          cnv = cnv;
+          files = files;
+        }) }
     {
         Ok(Handles {
             slots: empty_slots(alloc)?,
@@ -99,8 +100,8 @@ impl Handles {
         requires opened { self.old.handles.opened < 2 ^ 63 }
 
         // It fails only at the limit, and then nothing changes.
-        ensures limit { IsErr result ↔ (max_handles ≤ length self.old.handles.live) }
-        ensures room { OnOk result (length self.old.handles.live < max_handles) }
+        ensures limit { IsErr result ↔ (MAX_HANDLES ≤ length self.old.handles.live) }
+        ensures room { OnOk result (length self.old.handles.live < MAX_HANDLES) }
         ensures err { OnErr result (self.new ≡ self.old) }
 
         // The handle is the last, and was never live before.
@@ -111,7 +112,7 @@ impl Handles {
         ensures older { IfOk result (λ h. All (λ live. live.handle.generation < h.generation) self.old.handles.live) }
         ensures key { IfOk result (λ h. All (λ live. live.handle.key ≢ h.key) self.old.handles.live) }
     {
-        if self.slots.len() >= MAX_HANDLES {
+        if self.slots.len() >= MAX_HANDLES as usize {
             return Err(TooManyHandles);
         }
         let generation = self.opened;
@@ -175,7 +176,7 @@ impl Handles {
     /// How many handles are live.
     pub fn live(&self) -> u32
         ensures count { result ≡ length self.now.handles.live }
-        ensures limit { result ≤ max_handles }
+        ensures limit { result ≤ MAX_HANDLES }
 
         // Each has a generation of its own, below the next one, and those opened later have greater ones.
         ensures older { All (λ live. live.handle.generation < self.now.handles.opened) self.now.handles.live }

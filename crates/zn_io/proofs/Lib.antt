@@ -3,3 +3,4 @@ pub mod Findings
 pub mod Readings
 pub mod Recoveries
 pub mod Sizes
+pub mod NewDevices

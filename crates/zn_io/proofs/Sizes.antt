@@ -14,10 +14,10 @@ use Rattle.zn_truth.specs.World.{World, geometry_of}
 use Rattle.zn_truth.proofs.Issuing.{kind_is, kinds-length}
 use Rattle.zn_model.specs.declared.files.FileZones.{FileZones}
 use Rattle.zn_model.specs.declared.files.Found.{Found}
-use Rattle.zn_model.specs.ZoneFiles.{room_of}
+use Rattle.zn_model.specs.ZoneFiles.{room_of, zone_room_of}
 use Rattle.zn_model.specs.ShownStates.{holds, infos_of}
 use Rattle.zn_model.specs.Recovery.{found_by, is_passed_on}
-use Rattle.zn_io.specs.Files.{IsFile}
+use Rattle.zn_io.specs.Files.{IsFile, shape_of}
 
 holds_range : (t : Truth) (most first n : ℕ) → ((i : ℕ) → i < n → (info_at t (first + i)).held ≤ most) → holds (map (info_at t) (range_with_len first n)) ≤ n * most
 holds_range t most first zero h = omega arith
@@ -30,12 +30,13 @@ holds_range t most first (suc n) h =
     let d : suc n * most ≡ n * most + most = suc-mul n most in
     omega (arith, a, b, c, d)
 
-pub holds_file : (w : World) (file : FileZones) → IsSound w.truth → IsFile (geometry_of w) file → holds (infos_of w.truth file) ≤ room_of file
+pub holds_file : (w : World) (file : FileZones) → IsSound w.truth → IsFile (geometry_of w) file → holds (infos_of w.truth file) ≤ room_of (shape_of w) file
 unfolding geometry_of
-holds_file w file sound is = holds_range w.truth file.room file.first file.zones (λ i below.
+holds_file w file sound is = holds_range w.truth (zone_room_of w.truth.shape file) file.first file.zones (λ i below.
     let z : file.first + i < length w.truth.zones = omega (arith, is.inside, kinds-length w) in
     let h : (zone_at w.truth (file.first + i)).held ≤ room w.truth.shape (zone_at w.truth (file.first + i)).kind = (sound.zones (file.first + i) z).held in
-    let k : room w.truth.shape (zone_at w.truth (file.first + i)).kind ≡ file.room = ap (λ (k : Kind). room w.truth.shape k) (sym (kind_is w (file.first + i))) ∙ is.rooms i below in
+    let k : room w.truth.shape (zone_at w.truth (file.first + i)).kind ≡ zone_room_of w.truth.shape file =
+    ap (λ (k : Kind). room w.truth.shape k) (sym (kind_is w (file.first + i)) ∙ is.kinds i below) in
     omega (arith, h, k))
 
 -- what fails finds nothing that is held
@@ -44,6 +45,6 @@ failed_below true error most = tt
 failed_below false error most = omega arith
 
 pub found_below : (w : World) (file : FileZones) (r : Reply) (infos : List ZoneInfo) → IsSound w.truth → IsFile (geometry_of w) file → (IsOk r → infos ≡ infos_of w.truth file)
-    → IfOk (found_by r infos) (λ found. found.held ≤ room_of file)
+    → IfOk (found_by r infos) (λ found. found.held ≤ room_of (shape_of w) file)
 found_below w file (Ok unit) infos sound is told = let e : holds infos ≡ holds (infos_of w.truth file) = ap holds (told refl) in omega (arith, e, holds_file w file sound is)
-found_below w file (Err error) infos sound is told = failed_below (is_passed_on error) error (room_of file)
+found_below w file (Err error) infos sound is told = failed_below (is_passed_on error) error (room_of (shape_of w) file)

@@ -8,7 +8,9 @@ mod recovery;
 mod writing;
 
 pub use changes::{sync_file, truncate_file};
-pub use pieces::{piece, zones_touched};
-pub use reading::{MAX_READ, SCRATCH, read_file, read_pieces};
-pub use recovery::{find, is_passed_on, recover_file};
-pub use writing::{write_file, write_pieces};
+pub use reading::{SCRATCH, read_file};
+pub use recovery::{is_passed_on, recover_file};
+pub use writing::write_file;
+
+#[cfg(test)]
+mod tests;

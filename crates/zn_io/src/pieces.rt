@@ -1,9 +1,30 @@
 // The parts of an area of a file, one in each zone that it touches.
 ghost use Rattle.std.specs.Prelude.{◌≡◌, ℕ, ◌+◌, ◌-◌, ◌*◌, ◌/◌, ◌^◌, ◌<◌, ◌≤◌};
+ghost use Rattle.zn_model.specs.ZoneFiles.{zone_room_of};
 ghost use Rattle.zn_model.specs.Pieces.{piece as piece_of, zone_from, zone_to, Touched};
+ghost use Rattle.zn_io.specs.Files.{shape_of};
 
 use std::cmp::{max, min};
-use zn_model::{Area, Piece};
+use zn_device::Zoned;
+use zn_inode::zone_room;
+use zn_model::{Area, FileZones, Piece};
+
+/// The blocks of a file from one on, over the device that it lies on.
+pub fn area<D: Zoned>(dev: &D, file: &FileZones, from: u32, blocks: u32) -> Area
+    ensures { result ≡ record {
+      first = file.now.first;
+      room = zone_room_of (shape_of (D.state dev.now).world) file.now;
+      from = from;
+      blocks = blocks;
+    } }
+{
+    Area {
+        first: file.first,
+        room: zone_room(&dev.shape(), file),
+        from,
+        blocks,
+    }
+}
 
 /// The part of an area in the file's zone `i`, which it touches.
 pub fn piece(a: &Area, i: u32) -> Piece

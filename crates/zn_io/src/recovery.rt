@@ -1,19 +1,18 @@
 // What follows a failed command: the file's zones are reported, and the file shows what its policy says.
-ghost use Rattle.std.specs.Prelude.{◌≡◌, ℕ, ◌*◌, ◌^◌, ◌<◌, ◌≤◌, length, Bool, false, not, ◌&&◌, IfOk};
+ghost use Rattle.std.specs.Prelude.{◌≡◌, ℕ, ◌*◌, ◌^◌, ◌<◌, ◌≤◌, length, Bool, false, ◌&&◌, IfOk};
+ghost use Rattle.zn_truth.specs.declared.limits.TheConstants.{MAX_ZONES};
 ghost use Rattle.zn_truth.specs.World.{geometry_of};
-ghost use Rattle.zn_truth.specs.Lists.{is_answered};
-ghost use Rattle.zn_device.specs.Causes.{IsMemoryFree};
 ghost use Rattle.zn_model.specs.ZoneFiles.{files_of, room_of};
-ghost use Rattle.zn_model.specs.Table.{file_at};
+ghost use Rattle.zn_model.specs.Volume.{file_at};
 ghost use Rattle.zn_model.specs.Recovery.{is_passed_on as passed_on, found_by, agrees};
 ghost use Rattle.zn_inode.specs.Sizes.{IsWithinRoom};
-ghost use Rattle.zn_io.specs.Files.{IsFile, as_reply};
-ghost use Rattle.zn_io.specs.Findings.{Finds, Recovers, FindingCause};
+ghost use Rattle.zn_io.specs.Files.{IsFile, shape_of};
+ghost use Rattle.zn_io.specs.Findings.{Finds, Recovers};
 
 use zn_device::Zoned;
 use zn_inode::{Inodes, holds, worst};
 use zn_model::{FileZones, Found, Policy, Shown};
-use zn_truth::{Cond, DevError, ZoneInfo, ZoneNo};
+use zn_truth::{BLOCK_SIZE, Cond, DevError, ZoneInfo, ZoneNo};
 
 /// Whether no recovery follows a failure.
 pub fn is_passed_on(error: DevError) -> bool
@@ -27,9 +26,9 @@ pub fn is_passed_on(error: DevError) -> bool
 
 /// What a report with this reply found.
 fn found_in(reply: Result<(), DevError>, infos: &[ZoneInfo]) -> Result<Found, DevError>
-    requires { length infos.now ≤ 4096 }
+    requires { length infos.now ≤ MAX_ZONES }
     ensures found { result ≡ found_by reply infos.now }
-    ensures held { IfOk result (λ found. 4096 * found.held < 2 ^ 64) }
+    ensures held { IfOk result (λ found. BLOCK_SIZE * found.held < 2 ^ 64) }
 {
     match reply {
         Ok(()) => Ok(Found {
@@ -51,16 +50,12 @@ pub fn find<D: Zoned>(
     file: &FileZones,
     infos: &mut [ZoneInfo],
 ) -> Result<Found, DevError>
-    requires file { IsFile (geometry_of (D.world dev.old)) file.now }
+    requires file { IsFile (geometry_of (D.state dev.old).world) file.now }
     requires places { length infos.old ≡ file.now.zones }
-    requires unspoilt { D.is_spoilt dev.old ≡ false }
-    ensures step { Finds file.now result (D.world dev.old) (D.world dev.new) }
-    ensures held { IfOk result (λ found. 4096 * found.held < 2 ^ 64) }
-    ensures fits { IfOk result (λ found. found.held ≤ room_of file.now) }
-    ensures spoilt { D.is_spoilt dev.new ≡ not (is_answered (as_reply result)) }
-    ensures cause { FindingCause (as_reply result) (D.fault_count dev.old) (D.fault_count dev.new) (D.break_count dev.old) (D.break_count dev.new) }
-    ensures memory { IsMemoryFree (D.takes_memory dev.old) (as_reply result) }
-    ensures same { D.takes_memory dev.new ≡ D.takes_memory dev.old }
+    requires unspoilt { (D.state dev.old).spoilt ≡ false }
+    ensures step { Finds file.now result (D.state dev.old) (D.state dev.new) }
+    ensures held { IfOk result (λ found. BLOCK_SIZE * found.held < 2 ^ 64) }
+    ensures fits { IfOk result (λ found. found.held ≤ room_of (shape_of (D.state dev.old).world) file.now) }
 {
     let reply = dev.report(ZoneNo(file.first), infos);
     found_in(reply, infos)
@@ -68,10 +63,10 @@ pub fn find<D: Zoned>(
 
 /// Whether a finding is applied to nothing: after a read, where it is good and the file shows it.
 fn agrees_after_read(after_read: bool, found: &Found, shown: &Shown) -> bool
-    requires { 4096 * found.now.held < 2 ^ 64 }
+    requires { BLOCK_SIZE * found.now.held < 2 ^ 64 }
     ensures { result ≡ (after_read && agrees found.now shown.now) }
 {
-    after_read && found.cond == Cond::Good && 4096 * found.held == shown.size
+    after_read && found.cond == Cond::Good && BLOCK_SIZE as u64 * found.held == shown.size
 }
 
 /// Reports the zones of a file, and sets what it shows by the policy: after a read only where the file does
@@ -85,15 +80,12 @@ pub fn recover_file<D: Zoned>(
     infos: &mut [ZoneInfo],
 ) -> Result<bool, DevError>
     requires known { file < length (files_of inodes.old.layout) }
-    requires file { IsFile (geometry_of (D.world dev.old)) (file_at inodes.old file) }
+    requires file { IsFile (geometry_of (D.state dev.old).world) (file_at inodes.old file) }
+    requires shape { inodes.old.shape ≡ shape_of (D.state dev.old).world }
     requires places { (file_at inodes.old file).zones ≤ length infos.old }
-    requires unspoilt { D.is_spoilt dev.old ≡ false }
-    ensures step { Recovers after_read policy file result (D.world dev.old) (D.world dev.new) inodes.old inodes.new }
+    requires unspoilt { (D.state dev.old).spoilt ≡ false }
+    ensures step { Recovers after_read policy file result (D.state dev.old) (D.state dev.new) inodes.old inodes.new }
     ensures within { IsWithinRoom inodes.old → IsWithinRoom inodes.new }
-    ensures spoilt { D.is_spoilt dev.new ≡ not (is_answered (as_reply result)) }
-    ensures cause { FindingCause (as_reply result) (D.fault_count dev.old) (D.fault_count dev.new) (D.break_count dev.old) (D.break_count dev.new) }
-    ensures memory { IsMemoryFree (D.takes_memory dev.old) (as_reply result) }
-    ensures same { D.takes_memory dev.new ≡ D.takes_memory dev.old }
 {
     let zones = inodes.file(file);
     let places = zones.zones as usize;

@@ -1,18 +1,17 @@
 // Writes of a file.
-ghost use Rattle.std.specs.Prelude.{◌≡◌, ℕ, ◌+◌, ◌*◌, ◌^◌, ◌<◌, ◌≤◌, length, false, not, IsTrue};
+ghost use Rattle.std.specs.Prelude.{◌≡◌, ℕ, ◌+◌, ◌*◌, ◌^◌, ◌<◌, ◌≤◌, length, false, IsTrue};
 ghost use Rattle.zn_truth.specs.World.{geometry_of};
-ghost use Rattle.zn_truth.specs.Lists.{is_answered, Obeys, ObeysAll};
-ghost use Rattle.zn_device.specs.Causes.{DeviceCause, IsMemoryFree};
+ghost use Rattle.zn_device.specs.States.{Commanded, Ordered};
 ghost use Rattle.zn_model.specs.ZoneFiles.{capacity_of};
 ghost use Rattle.zn_model.specs.Pieces.{write_in, writes, Lies, Touched};
 ghost use Rattle.zn_model.specs.Writing.{area_of, grown};
-ghost use Rattle.zn_io.specs.Files.{IsFile, IsWritable, shown_after};
+ghost use Rattle.zn_io.specs.Files.{IsFile, IsWritable, shown_after, shape_of};
 
-use crate::{piece, zones_touched};
+use crate::pieces::{area, piece, zones_touched};
 use zn_device::Zoned;
 use zn_inode::capacity;
 use zn_model::{Area, FileZones, Shown};
-use zn_truth::{DevError, ZoneNo};
+use zn_truth::{BLOCK_SIZE, DevError, Shape, ZoneNo};
 
 /// Writes the part of the bytes that goes to the file's zone `i`.
 #[tactic(auto, using(crate::proofs::Places::same_bytes))]
@@ -23,43 +22,35 @@ fn write_piece<D: Zoned>(
     i: u32,
     bytes: &[u8],
 ) -> Result<(), DevError>
-    requires lies { Lies (geometry_of (D.world dev.old)) a.now zones }
+    requires lies { Lies (geometry_of (D.state dev.old).world) a.now zones }
     requires zone { i < zones }
     requires touched { Touched a.now i }
-    requires bytes { length bytes.now ≡ 4096 * a.now.blocks }
-    requires unspoilt { D.is_spoilt dev.old ≡ false }
-    ensures step { Obeys (write_in a.now bytes.now i) result (D.world dev.old) (D.world dev.new) }
-    ensures spoilt { D.is_spoilt dev.new ≡ not (is_answered result) }
-    ensures cause { DeviceCause result (D.fault_count dev.old) (D.fault_count dev.new) (D.break_count dev.old) (D.break_count dev.new) }
-    ensures memory { IsMemoryFree (D.takes_memory dev.old) result }
-    ensures same { D.takes_memory dev.new ≡ D.takes_memory dev.old }
+    requires bytes { length bytes.now ≡ BLOCK_SIZE * a.now.blocks }
+    requires unspoilt { (D.state dev.old).spoilt ≡ false }
+    ensures done { Commanded (write_in a.now bytes.now i) result (D.state dev.old) (D.state dev.new) }
 {
     let p = piece(a, i);
-    let start = 4096 * p.before as usize;
+    let start = BLOCK_SIZE * p.before as usize;
     dev.write(
         ZoneNo(p.zone),
         p.at,
-        &bytes[start..start + 4096 * p.blocks as usize],
+        &bytes[start..start + BLOCK_SIZE * p.blocks as usize],
     )
 }
 
 /// Writes bytes to an area of a file of so many zones, one write in each zone that it touches, in rising
 /// order, up to the first that fails.
-#[tactic(auto, using(zn_truth::proofs::OrderLists::rest_ok, zn_truth::proofs::OrderLists::all_stopped, zn_truth::proofs::OrderLists::all_done, crate::proofs::Places::touched))]
+#[tactic(auto, using(zn_device::proofs::Ordered::ordered_start, zn_device::proofs::Ordered::ordered_more, zn_device::proofs::Ordered::ordered_stopped, crate::proofs::Places::touched))]
 pub fn write_pieces<D: Zoned>(
     dev: &mut D,
     a: &Area,
     zones: u32,
     bytes: &[u8],
 ) -> Result<(), DevError>
-    requires lies { Lies (geometry_of (D.world dev.old)) a.now zones }
-    requires bytes { length bytes.now ≡ 4096 * a.now.blocks }
-    requires unspoilt { D.is_spoilt dev.old ≡ false }
-    ensures step { ObeysAll (writes a.now bytes.now) result (D.world dev.old) (D.world dev.new) }
-    ensures spoilt { D.is_spoilt dev.new ≡ not (is_answered result) }
-    ensures cause { DeviceCause result (D.fault_count dev.old) (D.fault_count dev.new) (D.break_count dev.old) (D.break_count dev.new) }
-    ensures memory { IsMemoryFree (D.takes_memory dev.old) result }
-    ensures same { D.takes_memory dev.new ≡ D.takes_memory dev.old }
+    requires lies { Lies (geometry_of (D.state dev.old).world) a.now zones }
+    requires bytes { length bytes.now ≡ BLOCK_SIZE * a.now.blocks }
+    requires unspoilt { (D.state dev.old).spoilt ≡ false }
+    ensures done { Ordered (writes a.now bytes.now) result (D.state dev.old) (D.state dev.new) }
 {
     let (from, to) = zones_touched(a, zones);
     for i in from..to {
@@ -69,14 +60,14 @@ pub fn write_pieces<D: Zoned>(
 }
 
 /// What a file shows after a write of so many bytes.
-fn grow(file: &FileZones, shown: &mut Shown, len: u64)
-    requires capacity { capacity_of file.now < 2 ^ 64 }
-    requires size { IsTrue file.now.sequential → shown.old.size + len ≤ capacity_of file.now }
-    ensures { shown.new ≡ grown file.now shown.old len }
+fn grow(shape: &Shape, file: &FileZones, shown: &mut Shown, len: u64)
+    requires capacity { capacity_of shape.now file.now < 2 ^ 64 }
+    requires size { IsTrue file.now.seq → shown.old.size + len ≤ capacity_of shape.now file.now }
+    ensures { shown.new ≡ grown shape.now file.now shown.old len }
 {
-    if file.sequential {
+    if file.seq {
         shown.size += len;
-        if shown.size == capacity(file) {
+        if shown.size == capacity(shape, file) {
             shown.held_open = false;
         }
     }
@@ -91,23 +82,18 @@ pub fn write_file<D: Zoned>(
     offset: u64,
     bytes: &[u8],
 ) -> Result<(), DevError>
-    requires file { IsFile (geometry_of (D.world dev.old)) file.now }
-    requires writable { IsWritable file.now shown.old offset (length bytes.now) }
-    requires unspoilt { D.is_spoilt dev.old ≡ false }
-    ensures step { ObeysAll (writes (area_of file.now offset (length bytes.now)) bytes.now) result (D.world dev.old) (D.world dev.new) }
-    ensures shown { shown.new ≡ shown_after result (grown file.now shown.old (length bytes.now)) shown.old }
-    ensures spoilt { D.is_spoilt dev.new ≡ not (is_answered result) }
-    ensures cause { DeviceCause result (D.fault_count dev.old) (D.fault_count dev.new) (D.break_count dev.old) (D.break_count dev.new) }
-    ensures memory { IsMemoryFree (D.takes_memory dev.old) result }
-    ensures same { D.takes_memory dev.new ≡ D.takes_memory dev.old }
+    requires file { IsFile (geometry_of (D.state dev.old).world) file.now }
+    requires writable { IsWritable (shape_of (D.state dev.old).world) file.now shown.old offset (length bytes.now) }
+    requires unspoilt { (D.state dev.old).spoilt ≡ false }
+    ensures done { let area = area_of (shape_of (D.state dev.old).world) file.now offset (length bytes.now) in
+        Ordered (writes area bytes.now) result (D.state dev.old) (D.state dev.new) }
+    ensures shown { let shape = shape_of (D.state dev.old).world in
+        shown.new ≡ shown_after result (grown shape file.now shown.old (length bytes.now)) shown.old }
 {
-    let area = Area {
-        first: file.first,
-        room: file.room,
-        from: (offset / 4096) as u32,
-        blocks: (bytes.len() / 4096) as u32,
-    };
+    let shape = dev.shape();
+    let from = (offset / BLOCK_SIZE as u64) as u32;
+    let area = area(dev, file, from, (bytes.len() / BLOCK_SIZE) as u32);
     write_pieces(dev, &area, file.zones, bytes)?;
-    grow(file, shown, bytes.len() as u64);
+    grow(&shape, file, shown, bytes.len() as u64);
     Ok(())
 }

@@ -1,7 +1,7 @@
 use Rattle.std.proofs.Common.{◌∙◌, sym, ap}
 use Rattle.std.specs.Option.{option_map}
-use Rattle.zn_model.specs.Table.{live_at}
-use Rattle.zn_handle.specs.Seen.{open_of}
+use Rattle.zn_model.specs.Volume.{live_at}
+use Rattle.zn_handle.specs.HandleState.{open_of}
 use Rattle.zn_handle.proofs.SlotSteps.{find_absent}
 use Rattle.zn_handle.proofs.KeptLaws.{split_at_handle}
 use Rattle.zn_handle.proofs.handles.Handles.get.Goals as goal

@@ -1,7 +1,8 @@
 use Rattle.std.proofs.Common.{◌≢◌, ◌<◌, ◌∙◌, length, All, refl, ap, subst, arith}
-use Rattle.zn_model.specs.Table.{with_live, max_handles}
+use Rattle.zn_model.specs.declared.limits.TheConstants.{MAX_HANDLES}
+use Rattle.zn_model.specs.Volume.{with_live}
 use Rattle.zn_handle.specs.declared.handles.Entry.{Entry}
-use Rattle.zn_handle.specs.Seen.{Seen}
+use Rattle.zn_handle.specs.HandleState.{HandleState}
 use Rattle.zn_handle.specs.Kept.{handles_of}
 use Rattle.zn_handle.specs.Slots.{live_of}
 use Rattle.zn_handle.proofs.SlotSteps.{older_lives, other_keys}
@@ -14,7 +15,7 @@ invariant_of-self c =
     let kept = c.self.invariant in
     let put = c.insert_reserved-key in
     let e : Entry = record { file = c.args.file; mode = c.args.mode; generation = a.opened } in
-    let room : length (handles_of a).live < max_handles = omega (arith, kept.len, c.len.ensures, c.if-len-ge-MAX_HANDLES.false) in
+    let room : length (handles_of a).live < MAX_HANDLES = omega (arith, kept.len, c.len.ensures, c.if-len.false) in
     let file : c.args.file < length a.writers.counts = omega (arith, ap (λ s. s.files) c.self.view_is, c.requires.file) in
     kept_put a kept put.new.self c.open.new.self put.result e room refl file put.ensures.was_vacant put.ensures.updates put.ensures.len put.ensures.capacity c.open.ensures
 
@@ -24,10 +25,10 @@ returns-clause-added c =
     let kept = c.self.invariant in
     let put = c.insert_reserved-key in
     let e : Entry = record { file = c.args.file; mode = c.args.mode; generation = a.opened } in
-    let room : length (handles_of a).live < max_handles = omega (arith, kept.len, c.len.ensures, c.if-len-ge-MAX_HANDLES.false) in
+    let room : length (handles_of a).live < MAX_HANDLES = omega (arith, kept.len, c.len.ensures, c.if-len.false) in
     let file : c.args.file < length a.writers.counts = omega (arith, ap (λ s. s.files) c.self.view_is, c.requires.file) in
     let more = seen_of_put a kept put.new.self c.open.new.self put.result e room refl file put.ensures.was_vacant put.ensures.updates put.ensures.len put.ensures.capacity c.open.ensures in
-    more ∙ ap {A = Seen} (λ s. record s { handles = with_live s.handles (live_of put.result e) }) c.self.view_is
+    more ∙ ap {A = HandleState} (λ s. record s { handles = with_live s.handles (live_of put.result e) }) c.self.view_is
 
 pub returns-clause-older : goal.returns-clause-older
 returns-clause-older c =

@@ -1,7 +1,7 @@
 use Rattle.std.proofs.Common.{◌≡◌, ◌∙◌, sym, ap, subst, arith}
 use Rattle.std.specs.Option.{option_map}
-use Rattle.zn_model.specs.Table.{live_at, without_live}
-use Rattle.zn_handle.specs.Seen.{Seen, open_of}
+use Rattle.zn_model.specs.Volume.{live_at, without_live}
+use Rattle.zn_handle.specs.HandleState.{HandleState, open_of}
 use Rattle.zn_handle.specs.Kept.{handles_of}
 use Rattle.zn_handle.specs.Slots.{live_of}
 use Rattle.zn_handle.proofs.SlotSteps.{find_absent}
@@ -44,4 +44,4 @@ returns-clause-rest c =
     let entry = c.in_ok-closed in
     let removed = c.remove.ensures in
     let left = seen_of_taken c.self.inside c.self.invariant c.remove.new.self c.close.new.self c.args.h entry.closed entry.ensures.key entry.ensures.generation removed.updates removed.len removed.capacity c.close.ensures in
-    left ∙ ap {A = Seen} (λ s. record s { handles = without_live s.handles c.args.h }) c.self.view_is
+    left ∙ ap {A = HandleState} (λ s. record s { handles = without_live s.handles c.args.h }) c.self.view_is

@@ -1,6 +1,6 @@
 use Rattle.std.proofs.Common.{◌∙◌, ap}
-use Rattle.zn_model.specs.Table.{writers_of}
-use Rattle.zn_handle.specs.Seen.{wro_of}
+use Rattle.zn_model.specs.Volume.{writers_of}
+use Rattle.zn_handle.specs.HandleState.{wro_of}
 use Rattle.zn_handle.specs.Kept.{handles_of}
 use Rattle.zn_handle.proofs.WriterLaws.{wro_from-told}
 use Rattle.zn_handle.proofs.handles.Handles.wro.Goals as goal
