@@ -1,0 +1,9 @@
+pub mod ResetLaws
+pub mod LookLaws
+pub mod Answering
+pub mod Effects
+pub mod Calls
+pub mod Zones
+pub mod Sweeps
+pub mod FormattedDevices
+pub mod FormatLaws
