@@ -9,10 +9,10 @@ use Rattle.zn_model.specs.declared.answers.Refusal.TheVariants.{Busy, PowerLost}
 use Rattle.zn_model.specs.CallAnswers.{Answer, refused}
 use Rattle.zn_model.specs.Mounting.{fresh_queue}
 use Rattle.zn_model.specs.OpenClose.{close_call, close_by, close_now, ended}
-use Rattle.zn_model.specs.Table.{Mounted, Live, Handles, Queue, live_at, is_same_handle, is_queued_through, without_live}
+use Rattle.zn_model.specs.Volume.{Mounted, Live, Handles, Queue, live_at, is_same_handle, is_queued_through, without_live}
 use Rattle.zn_handle.specs.declared.handles.Open.{Open}
-use Rattle.zn_handle.specs.Seen.{open_of}
-use Rattle.zn_volume.specs.Seen.{Seen}
+use Rattle.zn_handle.specs.HandleState.{open_of}
+use Rattle.zn_volume.specs.VolumeState.{VolumeState, mounted_in}
 use Rattle.zn_volume.specs.Closing.{Closes, held_closed, zone_closed}
 
 -- what is found passes
@@ -64,10 +64,10 @@ closed_by m h result new powered is on_now both =
     }
 
 -- what a handle's end and the zone's close make is what the call does
-pub closed : (v now : Seen) (h : Handle) (on : Open) (after : Handles) (result : Result (Unit {0}) Refusal) (new : Mounted) (powered : Bool) → v ≡ now
-    → v.mounted.world.powered ≡ powered → powered ≡ true → option_map open_of (live_at v.mounted.volume.handles h) ≡ Some on → v.mounted.volume.queue ≡ fresh_queue
-    → after ≡ without_live v.mounted.volume.handles h → Closes on result (record v.mounted { volume = record v.mounted.volume { handles = after } }) new → IsClosed now.mounted h result new
+pub closed : (v now : VolumeState) (h : Handle) (on : Open) (after : Handles) (result : Result (Unit {0}) Refusal) (new : Mounted) (powered : Bool) → v ≡ now
+    → v.device.world.powered ≡ powered → powered ≡ true → option_map open_of (live_at v.volume.handles h) ≡ Some on → v.volume.queue ≡ fresh_queue
+    → after ≡ without_live v.volume.handles h → Closes on result (record { world = v.device.world; volume = record v.volume { handles = after } }) new → IsClosed (mounted_in now) h result new
 closed v now h on after result new powered same is on_now some queue rest closes =
-    let ends = subst (λ (handles : Handles). Closes on result (record v.mounted { volume = record v.mounted.volume { handles = handles } }) new) rest closes in
-    let both = from_live v.mounted h on result new (live_at v.mounted.volume.handles h) refl some queue ends in
-    subst (λ (s : Seen). IsClosed s.mounted h result new) same (closed_by v.mounted h result new powered is on_now both)
+    let ends = subst (λ (handles : Handles). Closes on result (record { world = v.device.world; volume = record v.volume { handles = handles } }) new) rest closes in
+    let both = from_live (mounted_in v) h on result new (live_at v.volume.handles h) refl some queue ends in
+    subst (λ (s : VolumeState). IsClosed (mounted_in s) h result new) same (closed_by (mounted_in v) h result new powered is on_now both)

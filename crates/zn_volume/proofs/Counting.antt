@@ -5,9 +5,9 @@ use Rattle.std.specs.List.{range_with_len}
 use Rattle.std.proofs.lemmas.List.Sums.{sum_by-cons}
 use Rattle.zn_truth.specs.World.{World}
 use Rattle.zn_model.specs.ZoneFiles.{files_of}
-use Rattle.zn_model.specs.Table.{Inodes, file_at, writers_of}
-use Rattle.zn_handle.specs.Seen as handles
-use Rattle.zn_volume.specs.Seen.{Agrees}
+use Rattle.zn_model.specs.Volume.{Inodes, file_at, writers_of}
+use Rattle.zn_handle.specs.HandleState as handles
+use Rattle.zn_volume.specs.VolumeState.{Agrees}
 
 count_cons : (p : ℕ → Bool) (a : ℕ) (xs : List ℕ) → count_by p (a ∷ xs) ≡ cond (p a) 1 0 + count_by p xs
 count_cons p a xs = sum_by-cons (λ n. cond (p n) 1 0) a xs
@@ -41,10 +41,10 @@ count_split p a (suc m) n =
     ap (λ (k : ℕ). count_by p (range_with_len a k)) e ∙ (omega (arith, rest, x, y, z))
 
 -- what the handles count is what the table counts
-pub wro_alike : (w : World) (inodes : Inodes) (seen : handles.Seen) (infos scratch : ℕ) → Agrees w inodes seen infos scratch
-    → handles.wro_of seen ≡ count_by (λ f. (file_at inodes f).sequential && nat_lt 0 (writers_of seen.handles f)) (range_with_len 0 (length (files_of inodes.layout)))
+pub wro_alike : (w : World) (inodes : Inodes) (seen : handles.HandleState) (infos scratch : ℕ) → Agrees w inodes seen infos scratch
+    → handles.wro_of seen ≡ count_by (λ f. (file_at inodes f).seq && nat_lt 0 (writers_of seen.handles f)) (range_with_len 0 (length (files_of inodes.layout)))
 wro_alike w inodes seen infos scratch agrees =
-    let p : ℕ → Bool = λ f. (file_at inodes f).sequential && nat_lt 0 (writers_of seen.handles f) in
+    let p : ℕ → Bool = λ f. (file_at inodes f).seq && nat_lt 0 (writers_of seen.handles f) in
     let q : ℕ → Bool = λ f. nat_lt 0 (writers_of seen.handles f) in
     let n = length (files_of inodes.layout) in
     let within : seen.cnv ≤ n = omega (arith, agrees.cnv, length-append inodes.layout.cnv inodes.layout.seq) in

@@ -5,33 +5,36 @@ use Rattle.std.proofs.lemmas.List.{get_or-set_same, get_or-set_other, set_past}
 use Rattle.zn_truth.specs.declared.Cond.{Cond}
 use Rattle.zn_truth.specs.declared.Cond.TheVariants.{Good, ReadOnly, Offline}
 use Rattle.zn_truth.specs.declared.DevError.{DevError}
-use Rattle.zn_truth.specs.declared.Kind.{Kind}
 use Rattle.zn_truth.specs.declared.Kind.TheVariants.{Conventional, Sequential}
-use Rattle.zn_truth.specs.Truth.{Geometry, is_good, is_sequential, kind_at}
-use Rattle.zn_truth.specs.Lists.{IsZoneToManage}
+use Rattle.zn_truth.specs.declared.Shape.{Shape}
+use Rattle.zn_truth.specs.Truth.{Geometry, is_good, kind_at}
+use Rattle.zn_truth.specs.Obeying.{IsZoneToManage}
 use Rattle.zn_truth.specs.World.{World, geometry_of}
+use Rattle.zn_device.specs.States.{DeviceState}
 use Rattle.zn_model.specs.declared.files.FileZones.{FileZones}
 use Rattle.zn_model.specs.declared.files.Found.{Found}
 use Rattle.zn_model.specs.declared.files.Policy.{Policy}
 use Rattle.zn_model.specs.declared.files.Policy.TheVariants.{RemountRo, ZoneRo, ZoneOffline, Repair}
 use Rattle.zn_model.specs.declared.files.Shown.{Shown}
-use Rattle.zn_model.specs.ZoneFiles.{Layout, files_of}
+use Rattle.zn_model.specs.ZoneFiles.{Layout, files_of, kind_of}
 use Rattle.zn_inode.specs.Sizes.{IsWithinRoom}
-use Rattle.std.specs.Prelude.{slice_index_or}
+use Rattle.std.specs.Prelude.{slice_index_or, if◌then◌else◌}
 use Rattle.zn_model.specs.ShownStates.{policy_row, showing}
-use Rattle.zn_model.specs.Table.{Inodes, file_at, shown_at, with_shown, no_file}
+use Rattle.zn_model.specs.Volume.{Inodes, file_at, shown_at, with_shown, no_file}
 use Rattle.zn_model.specs.Recovery.{recovered_inodes, recovered_shown, inodes_after}
-use Rattle.zn_handle.specs.Seen as handles
+use Rattle.zn_handle.specs.HandleState as handles
 use Rattle.zn_io.specs.Files.{IsFile}
 use Rattle.zn_io.specs.Findings.{Recovers, applied_to}
-use Rattle.zn_volume.specs.Seen.{Agrees, IsHeldSequential}
+use Rattle.zn_volume.specs.VolumeState.{Agrees, IsHeldSequential}
 
 -- a command keeps the device's geometry, and a read the room for blocks
-pub agrees_on : (v w : World) (inodes : Inodes) (seen : handles.Seen) (infos a b : ℕ) → geometry_of w ≡ geometry_of v → b ≡ a → Agrees v inodes seen infos a → Agrees w inodes seen infos b
+pub agrees_on : (v w : World) (inodes : Inodes) (seen : handles.HandleState) (infos a b : ℕ) → geometry_of w ≡ geometry_of v → b ≡ a → Agrees v inodes seen infos a → Agrees w inodes seen infos b
 agrees_on v w inodes seen infos a b same len agrees = record {
   files = λ f below. subst (λ (g : Geometry). IsFile g (file_at inodes f)) (sym same) (agrees.files f below);
   conventional = agrees.conventional;
   sequential = agrees.sequential;
+  single = agrees.single;
+  shape = agrees.shape ∙ ap (λ (g : Geometry). g.shape) (sym same);
   sizes = agrees.sizes;
   held = agrees.held;
   cnv = agrees.cnv;
@@ -49,12 +52,12 @@ shown_there inodes f shown P new old = elim (cases_lt f (length inodes.shown)) [
   | inr past ↦ subst P (sym (ap (λ (l : List Shown). get_or l f (showing 0 false false false)) (set_past inodes.shown f shown past))) old
 ]
 
-pub held_set : (inodes : Inodes) (f : ℕ) (shown : Shown) → IsHeldSequential inodes → (shown.held_open ≡ true → (file_at inodes f).sequential ≡ true) → IsHeldSequential (with_shown inodes f shown)
+pub held_set : (inodes : Inodes) (f : ℕ) (shown : Shown) → IsHeldSequential inodes → (shown.held_open ≡ true → (file_at inodes f).seq ≡ true) → IsHeldSequential (with_shown inodes f shown)
 held_set inodes f shown held new = record {
   file = λ k below. elim (cases_eq k f) [
-    | inl same ↦ subst (λ (k : ℕ). (shown_at (with_shown inodes f shown) k).held_open ≡ true → (file_at inodes k).sequential ≡ true) (sym same)
-        (shown_there inodes f shown (λ s. s.held_open ≡ true → (file_at inodes f).sequential ≡ true) new (held.file f (subst (λ (n : ℕ). n < length (files_of inodes.layout)) same below)))
-    | inr other ↦ subst (λ (s : Shown). s.held_open ≡ true → (file_at inodes k).sequential ≡ true) (sym (get_or-set_other inodes.shown f k shown (showing 0 false false false) other)) (held.file k below)
+    | inl same ↦ subst (λ (k : ℕ). (shown_at (with_shown inodes f shown) k).held_open ≡ true → (file_at inodes k).seq ≡ true) (sym same)
+        (shown_there inodes f shown (λ s. s.held_open ≡ true → (file_at inodes f).seq ≡ true) new (held.file f (subst (λ (n : ℕ). n < length (files_of inodes.layout)) same below)))
+    | inr other ↦ subst (λ (s : Shown). s.held_open ≡ true → (file_at inodes k).seq ≡ true) (sym (get_or-set_other inodes.shown f k shown (showing 0 false false false) other)) (held.file k below)
   ];
 }
 
@@ -73,39 +76,41 @@ row_held Repair ReadOnly held size stays_open = refl
 row_held Repair Offline held size stays_open = refl
 
 -- a recovery holds no file open that wasn't
-stays_held : (policy : Policy) (found : Found) (file : FileZones) (shown : Shown) → (recovered_shown policy found file shown).held_open ≡ true → shown.held_open ≡ true
-stays_held policy found file shown is =
+stays_held : (policy : Policy) (found : Found) (shape : Shape) (file : FileZones) (shown : Shown) → (recovered_shown policy found shape file shown).held_open ≡ true → shown.held_open ≡ true
+stays_held policy found shape file shown is =
     let all = (and_parts _ _ (sym (row_held policy found.cond _ shown.size _) ∙ is)).0 in
     (and_parts shown.held_open (is_good found.cond) all).0
 
 pub held_recovered : (policy : Policy) (found : Found) (inodes : Inodes) (f : ℕ) → f < length (files_of inodes.layout) → IsHeldSequential inodes → IsHeldSequential (recovered_inodes policy found inodes f)
 unfolding recovered_inodes
 held_recovered policy found inodes f known held =
-    let shown = recovered_shown policy found (file_at inodes f) (shown_at inodes f) in
-    record { file = (held_set inodes f shown held (λ is. held.file f known (stays_held policy found (file_at inodes f) (shown_at inodes f) is))).file }
+    let shown = recovered_shown policy found inodes.shape (file_at inodes f) (shown_at inodes f) in
+    record { file = (held_set inodes f shown held (λ is. held.file f known (stays_held policy found inodes.shape (file_at inodes f) (shown_at inodes f) is))).file }
 
 held_after : (found : Option Found) (policy : Policy) (inodes : Inodes) (f : ℕ) → f < length (files_of inodes.layout) → IsHeldSequential inodes → IsHeldSequential (inodes_after found policy inodes f)
 held_after (Some found) policy inodes f known held = held_recovered policy found inodes f known held
 held_after None policy inodes f known held = held
 
-pub recovers_held : (after_read : Bool) (policy : Policy) (f : ℕ) (result : Result Bool DevError) (old new : World) (before after : Inodes)
+pub recovers_held : (after_read : Bool) (policy : Policy) (f : ℕ) (result : Result Bool DevError) (old new : DeviceState) (before after : Inodes)
     → Recovers after_read policy f result old new before after → f < length (files_of before.layout) → IsHeldSequential before → IsHeldSequential after
 recovers_held after_read policy f (Ok changed) old new before after step known held =
-    subst IsHeldSequential (sym (step.inodes refl)) (held_after (applied_to after_read old before f) policy before f known held)
+    subst IsHeldSequential (sym (step.inodes refl)) (held_after (applied_to after_read old.world before f) policy before f known held)
 recovers_held after_read policy f (Err error) old new before after step known held =
     subst IsHeldSequential (sym (step.failed refl)) held
 
 -- a recovery
-pub agrees_recovered : (after_read : Bool) (policy : Policy) (f : ℕ) (result : Result Bool DevError) (old new : World) (before after : Inodes) (seen : handles.Seen) (infos places blocks : ℕ)
+pub agrees_recovered : (after_read : Bool) (policy : Policy) (f : ℕ) (result : Result Bool DevError) (old new : DeviceState) (before after : Inodes) (seen : handles.HandleState) (infos places blocks : ℕ)
     → Recovers after_read policy f result old new before after → (IsWithinRoom before → IsWithinRoom after) → f < length (files_of before.layout) → places ≡ infos
-    → Agrees old before seen infos blocks → Agrees new after seen places blocks
+    → Agrees old.world before seen infos blocks → Agrees new.world after seen places blocks
 agrees_recovered after_read policy f result old new before after seen infos places blocks step within known len agrees =
     let same : before.layout ≡ after.layout = sym step.others.layout in
     record {
       files = λ k below. subst (λ (g : Geometry). IsFile g (file_at after k)) (sym step.geometry)
-          (subst (λ (l : Layout). k < length (files_of l) → IsFile (geometry_of old) (slice_index_or (files_of l) k no_file)) same (agrees.files k) below);
-      conventional = λ k below. subst (λ (l : Layout). k < length l.cnv → (slice_index_or (files_of l) k no_file).sequential ≡ false) same (agrees.conventional k) below;
-      sequential = λ k from below. subst (λ (l : Layout). length l.cnv ≤ k → k < length (files_of l) → (slice_index_or (files_of l) k no_file).sequential ≡ true) same (agrees.sequential k) from below;
+          (subst (λ (l : Layout). k < length (files_of l) → IsFile (geometry_of old.world) (slice_index_or (files_of l) k no_file)) same (agrees.files k) below);
+      conventional = λ k below. subst (λ (l : Layout). k < length l.cnv → (slice_index_or (files_of l) k no_file).seq ≡ false) same (agrees.conventional k) below;
+      sequential = λ k from below. subst (λ (l : Layout). length l.cnv ≤ k → k < length (files_of l) → (slice_index_or (files_of l) k no_file).seq ≡ true) same (agrees.sequential k) from below;
+      single = λ k below. subst (λ (l : Layout). k < length (files_of l) → (slice_index_or (files_of l) k no_file).seq ≡ true → (slice_index_or (files_of l) k no_file).zones ≡ 1) same (agrees.single k) below;
+      shape = step.others.shape ∙ agrees.shape ∙ ap (λ (g : Geometry). g.shape) (sym step.geometry);
       sizes = within agrees.sizes;
       held = recovers_held after_read policy f result old new before after step known agrees.held;
       cnv = agrees.cnv ∙ ap (λ (l : Layout). length l.cnv) same;
@@ -116,13 +121,9 @@ agrees_recovered after_read policy f result old new before after seen infos plac
 
 -- ---- zones
 
-kind_sequential : (kind : Kind) → is_sequential kind ≡ true → kind ≡ Sequential
-kind_sequential Sequential h = refl
-kind_sequential Conventional h = absurd (cc)
-
 -- the zone of a sequential file can be managed
-pub manageable : (g : Geometry) (file : FileZones) → IsFile g file → file.sequential ≡ true → IsZoneToManage g file.first
+pub manageable : (g : Geometry) (file : FileZones) → IsFile g file → file.seq ≡ true → IsZoneToManage g file.first
 manageable g file is sequential = record {
   zone = omega (arith, is.some, is.inside);
-  kind = kind_sequential (kind_at g file.first) (subst (λ (z : ℕ). is_sequential (kind_at g z) ≡ file.sequential) (omega arith) (is.kinds 0 is.some) ∙ sequential);
+  kind = subst (λ (z : ℕ). kind_at g z ≡ kind_of file) (omega arith) (is.kinds 0 is.some) ∙ ap (λ (b : Bool). if b then Sequential else Conventional) sequential;
 }

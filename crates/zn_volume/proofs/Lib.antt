@@ -1,3 +1,4 @@
+pub mod Waiting
 pub mod Causing
 pub mod Keeping
 pub mod Counting
@@ -5,5 +6,13 @@ pub mod Closings
 pub mod Naming
 pub mod Layouts
 pub mod Fresh
-pub mod Mounted
 pub mod Refusing
+pub mod Giving
+pub mod IoErrors
+pub mod Closes
+pub mod Looks
+pub mod Finding
+pub mod MountAnswers
+pub mod Zone0
+pub mod MountCauses
+pub mod Mounted

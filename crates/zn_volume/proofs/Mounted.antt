@@ -1,176 +1,64 @@
--- What a mount answers, and what its volume keeps to.
-use Rattle.std.proofs.Common.{◌≡◌, ◌⊎◌, ℕ, ◌+◌, ◌-◌, ◌*◌, ◌<◌, ◌≤◌, Bool, true, false, not, List, ◌++◌, length, map, take, drop, All, Result, Ok, Err, refl, sym, ap, ◌∙◌, subst, arith, inl, inr, length-append}
-use Rattle.std.specs.Prelude.{slice_index_or}
-use Rattle.std.proofs.lemmas.List.{take-append-drop, get_or-map, get_or_append_left, get_or-append-add}
-use Rattle.std.proofs.lemmas.List.Elements.{All-append, All-same}
+-- What a mounted volume is, and what its parts keep to.
+use Rattle.std.proofs.Common.{◌≡◌, ℕ, ◌+◌, ◌-◌, ◌*◌, ◌<◌, ◌≤◌, Bool, true, false, List, ◌++◌, length, map, All, Result, Ok, Err, refl, sym, ap, ◌∙◌, subst, arith, cond}
+use Rattle.std.specs.Prelude.{slice_index_or, if◌then◌else◌}
+use Rattle.std.proofs.lemmas.Bool.{false≢true}
+use Rattle.std.proofs.lemmas.List.{get_or-map}
 use Rattle.zn_truth.specs.declared.Cond.{Cond}
 use Rattle.zn_truth.specs.declared.Cond.TheVariants.{Good, ReadOnly as cond_read_only, Offline as cond_offline}
-use Rattle.zn_truth.specs.declared.DevError.{DevError}
-use Rattle.zn_truth.specs.declared.DevError.TheVariants.{ReadOnly, Offline, Unaligned, TooManyActive, TooManyOpen, BeyondWp, Fault, PowerLost, Broken as dev_broken, Memory as dev_memory}
+use Rattle.zn_truth.specs.declared.Kind.{Kind}
+use Rattle.zn_truth.specs.declared.Shape.{Shape}
 use Rattle.zn_truth.specs.Truth.{Truth, Geometry, geometry, IsSound}
-use Rattle.zn_truth.specs.Orders.{Reply}
-use Rattle.zn_truth.specs.World.{World, Outcome, geometry_of, issue}
+use Rattle.zn_truth.specs.World.{World, geometry_of}
 use Rattle.zn_truth.specs.Limits.{IsWithinLimits}
-use Rattle.zn_truth.specs.Lists.{Obeys, is_answered}
-use Rattle.zn_device.specs.Causes.{DeviceCause}
+use Rattle.zn_truth.specs.Obeying.{is_answered}
+use Rattle.zn_device.specs.States.{DeviceState, Ordered}
 use Rattle.zn_model.specs.declared.answers.MountError.{MountError}
-use Rattle.zn_model.specs.declared.answers.MountError.TheVariants.{Broken, Memory}
 use Rattle.zn_model.specs.declared.files.FileZones.{FileZones}
+use Rattle.zn_model.specs.declared.files.MountOpts.{MountOpts}
 use Rattle.zn_model.specs.declared.files.Shown.{Shown}
+use Rattle.zn_model.specs.SuperBlock.{SuperBlock}
 use Rattle.zn_model.specs.ZoneFiles.{Layout, layout_of, files_of}
 use Rattle.zn_model.specs.ShownStates.{infos_of, worst, holds, showing, mounted_by, mounted_shown}
 use Rattle.zn_model.specs.Looks.{report_all}
-use Rattle.zn_model.specs.Mounting.{MountAnswer, mount_error_of, fresh_handles, fresh_inodes, fresh_queue, fresh_volume}
-use Rattle.zn_model.specs.Scratch.{bare_volume, bare_super_block}
-use Rattle.zn_model.specs.declared.files.Policy.TheVariants.{RemountRo}
-use Rattle.zn_model.specs.Table.{Inodes, Handles, Volume, file_at, shown_at, no_file}
+use Rattle.zn_model.specs.Mounting.{MountAnswer, fresh_handles, fresh_inodes, fresh_queue, fresh_volume, mount_call}
+use Rattle.zn_model.specs.Volume.{Inodes, Handles, Volume, file_at, shown_at, no_file}
 use Rattle.zn_inode.specs.Sizes.{IsWithinRoom}
-use Rattle.zn_handle.specs.Seen as handles
+use Rattle.zn_handle.specs.HandleState as handles
 use Rattle.zn_io.specs.Files.{IsFile}
 use Rattle.zn_io.proofs.Sizes.{holds_file}
-use Rattle.zn_volume.specs.Bare.{bare_mount, bare_reported, files_of_kind}
-use Rattle.zn_volume.specs.Mounts.{MountCause, IsZoneFile}
-use Rattle.zn_volume.specs.Seen.{Agrees, IsHeldSequential}
-use Rattle.zn_volume.proofs.Layouts.{cnv_is, seq_is, kind_zones, kind_alike, is_file}
-
--- ---- answers
-
-pub mounted_is : (v w : World) → Obeys (report_all v.truth) (Ok tt) v w → bare_mount v ≡ record { reply = Ok (bare_volume v.truth); world = w }
-unfolding bare_mount
-mounted_is v w step =
-    ap (λ (r : Reply). bare_reported (issue v (report_all v.truth)) r v.truth) (sym (step.reply refl))
-    ∙ ap (λ (u : World). let a : MountAnswer = record { reply = Ok (bare_volume v.truth); world = u } in a) (sym (step.world refl))
-
-failed_is : (error : DevError) (v w : World) → Obeys (report_all v.truth) (Err error) v w → is_answered (Err error) ≡ true → bare_mount v ≡ record { reply = Err (mount_error_of error); world = w }
-unfolding bare_mount
-failed_is error v w step answered =
-    ap (λ (r : Reply). bare_reported (issue v (report_all v.truth)) r v.truth) (sym (step.reply answered))
-    ∙ ap (λ (u : World). let a : MountAnswer = record { reply = Err (mount_error_of error); world = u } in a) (sym (step.world answered))
-
-from_memory : (error : DevError) → mount_error_of error ≡ Memory → error ≡ dev_memory
-from_memory ReadOnly h = absurd (cc)
-from_memory Offline h = absurd (cc)
-from_memory Unaligned h = absurd (cc)
-from_memory TooManyActive h = absurd (cc)
-from_memory TooManyOpen h = absurd (cc)
-from_memory BeyondWp h = absurd (cc)
-from_memory Fault h = absurd (cc)
-from_memory PowerLost h = absurd (cc)
-from_memory dev_broken h = absurd (cc)
-from_memory dev_memory h = refl
-
-from_broken : (error : DevError) → mount_error_of error ≡ Broken → error ≡ dev_broken
-from_broken ReadOnly h = absurd (cc)
-from_broken Offline h = absurd (cc)
-from_broken Unaligned h = absurd (cc)
-from_broken TooManyActive h = absurd (cc)
-from_broken TooManyOpen h = absurd (cc)
-from_broken BeyondWp h = absurd (cc)
-from_broken Fault h = absurd (cc)
-from_broken PowerLost h = absurd (cc)
-from_broken dev_broken h = refl
-from_broken dev_memory h = absurd (cc)
-
-spoils : (error : DevError) → is_answered (Err error) ≡ false → (mount_error_of error ≡ Broken) ⊎ (mount_error_of error ≡ Memory)
-spoils ReadOnly h = absurd (cc)
-spoils Offline h = absurd (cc)
-spoils Unaligned h = absurd (cc)
-spoils TooManyActive h = absurd (cc)
-spoils TooManyOpen h = absurd (cc)
-spoils BeyondWp h = absurd (cc)
-spoils Fault h = absurd (cc)
-spoils PowerLost h = absurd (cc)
-spoils dev_broken h = inl refl
-spoils dev_memory h = inr refl
-
-not_false : (b : Bool) → not b ≡ false → b ≡ true
-not_false true h = refl
-not_false false h = absurd (cc)
-
-not_true : (b : Bool) → not b ≡ true → b ≡ false
-not_true true h = absurd (cc)
-not_true false h = refl
-
-clash : {A : Type 0} → true ≡ false → A
-clash h = absurd (cc)
-
--- a report that failed
-pub report_failed : (error : DevError) (spoilt : Bool) (v w : World) (faults0 faults breaks0 breaks : ℕ) → Obeys (report_all v.truth) (Err error) v w
-    → spoilt ≡ not (is_answered (Err error)) → DeviceCause (Err error) faults0 faults breaks0 breaks → MountCause (mount_error_of error) spoilt v w faults0 faults breaks0 breaks
-report_failed error spoilt v w faults0 faults breaks0 breaks step is cause = record {
-  reported = λ unspoilt told. failed_is error v w step (not_false (is_answered (Err error)) (sym is ∙ unspoilt));
-  unreported = λ unspoilt wants. clash (sym (not_false (is_answered (Err error)) (sym is ∙ unspoilt)) ∙ ap (λ (e : DevError). is_answered (Err e)) (from_memory error wants));
-  spoiling = λ spoils_it. spoils error (not_true (is_answered (Err error)) (sym is ∙ spoils_it));
-  later = cause.later;
-  no_fewer = cause.no_fewer;
-  broken = λ broke. cause.broken (ap (λ (e : DevError). Err e) (from_broken error broke));
-}
-
--- memory was wanting before the report
-pub wanting_before : (spoilt : Bool) (v : World) (faults breaks : ℕ) → spoilt ≡ false → MountCause Memory spoilt v v faults faults breaks breaks
-wanting_before spoilt v faults breaks unspoilt = record {
-  reported = λ _ other. absurd (other refl);
-  unreported = λ _ _. inl refl;
-  spoiling = λ is. clash (sym is ∙ unspoilt);
-  later = omega arith;
-  no_fewer = omega arith;
-  broken = λ broke. absurd (cc);
-}
-
--- memory was wanting after a report that was done
-pub wanting_after : (spoilt : Bool) (v w : World) (faults0 faults breaks0 breaks : ℕ) → Obeys (report_all v.truth) (Ok tt) v w → spoilt ≡ not (is_answered (Ok tt)) → DeviceCause (Ok tt) faults0 faults breaks0 breaks
-    → MountCause Memory spoilt v w faults0 faults breaks0 breaks
-wanting_after spoilt v w faults0 faults breaks0 breaks step is cause = record {
-  reported = λ _ other. absurd (other refl);
-  unreported = λ _ _. inr (sym (ap (λ (a : MountAnswer). a.world) (mounted_is v w step)));
-  spoiling = λ spoils_it. clash (sym spoils_it ∙ is);
-  later = cause.later;
-  no_fewer = cause.no_fewer;
-  broken = λ broke. absurd (cc);
-}
-
--- ---- the files
-
-pub fresh_is : (t : Truth) (g : Geometry) (files : List FileZones) (n : ℕ) (inodes : Inodes) → inodes.layout.cnv ≡ take n files → inodes.layout.seq ≡ drop n files → inodes.read_only ≡ false
-    → take n files ≡ files_of_kind g false → drop n files ≡ files_of_kind g true → inodes.shown ≡ map (mounted_shown t) files → geometry t ≡ g → 1 ≤ length g.kinds
-    → inodes ≡ fresh_inodes t (layout_of (geometry t) false)
-fresh_is t g files n inodes cnv seq writable first second shown same some =
-    let layout : Layout = layout_of (geometry t) false in
-    let a : inodes.layout.cnv ≡ (layout_of (geometry t) false).cnv = cnv ∙ first ∙ sym (cnv_is g some) ∙ ap (λ (g : Geometry). (layout_of g false).cnv) (sym same) in
-    let b : inodes.layout.seq ≡ (layout_of (geometry t) false).seq = seq ∙ second ∙ sym (seq_is g some) ∙ ap (λ (g : Geometry). (layout_of g false).seq) (sym same) in
-    let l : inodes.layout ≡ layout_of (geometry t) false =
-    ap (λ (x : List FileZones). let l : Layout = record { cnv = x; seq = inodes.layout.seq } in l) a ∙ ap (λ (x : List FileZones). let l : Layout = record { cnv = (layout_of (geometry t) false).cnv; seq = x } in l) b in
-    let all : files ≡ files_of (layout_of (geometry t) false) =
-    sym (take-append-drop n files) ∙ ap (λ (x : List FileZones). x ++ drop n files) (sym cnv ∙ a) ∙ ap (λ (x : List FileZones). (layout_of (geometry t) false).cnv ++ x) (sym seq ∙ b) in
-    ap (λ (x : Layout). let i : Inodes = record { layout = x; shown = inodes.shown; read_only = inodes.read_only } in i) l
-    ∙ ap (λ (x : List Shown). let i : Inodes = record { layout = layout_of (geometry t) false; shown = x; read_only = inodes.read_only } in i) (shown ∙ ap (λ (x : List FileZones). map (mounted_shown t) x) all)
-    ∙ ap (λ (x : Bool). let i : Inodes = record { layout = layout_of (geometry t) false; shown = map (mounted_shown t) (files_of (layout_of (geometry t) false)); read_only = x } in i) writable
+use Rattle.zn_volume.specs.MountSteps.{ArePrepared, found_in, mount_orders, Finds}
+use Rattle.zn_volume.specs.Mounts.{IsMounted}
+use Rattle.zn_volume.specs.VolumeState.{Agrees, IsHeldSequential, VolumeState}
+use Rattle.zn_volume.proofs.Finding.{found_cases}
+use Rattle.zn_volume.proofs.Layouts.{layout_file, layout_single, layout_cnv, layout_seq, layout_inside}
+use Rattle.zn_volume.proofs.MountAnswers.{answer_is}
+use Rattle.zn_volume.proofs.MountCauses.{only_world, done_powered}
 
 pub geometry-of : (w : World) → geometry w.truth ≡ geometry_of w
 unfolding geometry_of
 geometry-of w = refl
 
-pub bare_inodes : (t : Truth) → (bare_volume t).inodes ≡ fresh_inodes t (layout_of (geometry t) false)
-unfolding fresh_volume
-bare_inodes t = refl
+-- ---- the files
 
--- a volume of these files and handles
-volume_of : Inodes → Handles → Volume
-volume_of inodes handles = record { super_block = bare_super_block; policy = RemountRo; explicit_open = false; inodes = inodes; handles = handles; queue = fresh_queue }
+-- the files that were prepared, with what is shown of them
+pub fresh_is : (t : Truth) (g : Geometry) (aggr : Bool) (before after : Inodes) (seen : handles.HandleState) → ArePrepared g.kinds aggr g.shape before seen → geometry t ≡ g
+    → after ≡ record before { shown = map (mounted_shown t) (files_of before.layout) } → after ≡ fresh_inodes t (layout_of (geometry t).kinds aggr)
+fresh_is t g aggr before after seen prepared same is =
+    let l : before.layout ≡ layout_of (geometry t).kinds aggr = prepared.layout ∙ ap (λ (h : Geometry). layout_of h.kinds aggr) (sym same) in
+    is
+    ∙ ap (λ (x : Layout). let i : Inodes = record { layout = x; shape = before.shape; shown = map (mounted_shown t) (files_of x); read_only = before.read_only } in i) l
+    ∙ ap (λ (x : Shape). let i : Inodes = record { layout = layout_of (geometry t).kinds aggr; shape = x; shown = map (mounted_shown t) (files_of (layout_of (geometry t).kinds aggr)); read_only = before.read_only } in i)
+    (prepared.shape ∙ sym (ap (λ (h : Geometry). h.shape) same))
+    ∙ ap (λ (x : Bool). let i : Inodes = record { layout = layout_of (geometry t).kinds aggr; shape = t.shape; shown = map (mounted_shown t) (files_of (layout_of (geometry t).kinds aggr)); read_only = x } in i) prepared.writable
 
-bare_is : (t : Truth) → bare_volume t ≡ volume_of (bare_volume t).inodes fresh_handles
-unfolding fresh_volume volume_of
-bare_is t = refl
+-- the zones of files that were prepared lie in the device
+pub prepared_inside : (kinds : List Kind) (aggr : Bool) (shape : Shape) (inodes : Inodes) (seen : handles.HandleState) (n : ℕ) → ArePrepared kinds aggr shape inodes seen → n ≡ length kinds
+    → All (λ (file : FileZones). file.first + file.zones ≤ n) (files_of inodes.layout)
+prepared_inside kinds aggr shape inodes seen n prepared is =
+    subst (λ (l : Layout). All (λ (file : FileZones). file.first + file.zones ≤ n) (files_of l)) (sym prepared.layout)
+    (subst (λ (m : ℕ). All (λ (file : FileZones). file.first + file.zones ≤ m) (files_of (layout_of kinds aggr))) (sym is) (layout_inside kinds aggr))
 
-pub mount_is : (v w : World) (inodes : Inodes) (handles : Handles) → bare_mount v ≡ record { reply = Ok (bare_volume v.truth); world = w } → inodes ≡ (bare_volume v.truth).inodes → handles ≡ fresh_handles
-    → bare_mount v ≡ record { reply = Ok (record { super_block = bare_super_block; policy = RemountRo; explicit_open = false; inodes = inodes; handles = handles; queue = fresh_queue }); world = w }
-unfolding volume_of
-mount_is v w inodes handles is same fresh =
-    let e : bare_volume v.truth ≡ volume_of inodes handles =
-    bare_is v.truth ∙ ap (λ (i : Inodes). volume_of i fresh_handles) (sym same) ∙ ap (λ (h : Handles). volume_of inodes h) (sym fresh) in
-    is ∙ ap (λ (u : Volume). let a : MountAnswer = record { reply = Ok u; world = w } in a) e
-
--- ---- what they keep to
+-- ---- what the parts of a volume keep to
 
 mounted_size : (cond : Cond) (held : ℕ) → (mounted_by cond held).size ≤ held
 mounted_size Good held = omega arith
@@ -182,73 +70,81 @@ mounted_closed Good held = refl
 mounted_closed cond_read_only held = refl
 mounted_closed cond_offline held = refl
 
-layout_zones : (g : Geometry) → 1 ≤ length g.kinds → All (λ file. IsZoneFile g file) (files_of (layout_of g false))
-layout_zones g some = All-append (λ file. IsZoneFile g file) (layout_of g false).cnv (layout_of g false).seq
-    (All-same (λ file. IsZoneFile g file) (layout_of g false).cnv (files_of_kind g false) (cnv_is g some) (kind_zones g false))
-    (All-same (λ file. IsZoneFile g file) (layout_of g false).seq (files_of_kind g true) (seq_is g some) (kind_zones g true))
-
 fresh_shown : (t : Truth) (layout : Layout) (f : ℕ) → f < length (files_of layout) → shown_at (fresh_inodes t layout) f ≡ mounted_shown t (file_at (fresh_inodes t layout) f)
 fresh_shown t layout f below = get_or-map (mounted_shown t) (files_of layout) f no_file (showing 0 false false false) below
 
-pub fresh_agrees : (v w : World) (inodes : Inodes) (seen : handles.Seen) (infos scratch : ℕ) → IsSound v.truth → IsWithinLimits (geometry_of v) → geometry_of w ≡ geometry_of v
-    → inodes ≡ fresh_inodes v.truth (layout_of (geometry v.truth) false) → seen.cnv ≡ length inodes.layout.cnv → seen.files ≡ length (files_of inodes.layout)
+fresh_sizes : (w : World) (aggr : Bool) → IsSound w.truth → IsWithinLimits (geometry_of w) → IsWithinRoom (fresh_inodes w.truth (layout_of (geometry w.truth).kinds aggr))
+unfolding geometry_of
+fresh_sizes w aggr sound limits = record {
+  size = λ f below.
+      let layout = layout_of (geometry w.truth).kinds aggr in
+      let e = fresh_shown w.truth (layout_of (geometry w.truth).kinds aggr) f below in
+      let h = holds_file w (file_at (fresh_inodes w.truth (layout_of (geometry w.truth).kinds aggr)) f) sound (layout_file (geometry w.truth) aggr f limits below) in
+      let m = mounted_size (worst (infos_of w.truth (file_at (fresh_inodes w.truth (layout_of (geometry w.truth).kinds aggr)) f))) (4096 * holds (infos_of w.truth (file_at (fresh_inodes w.truth (layout_of (geometry w.truth).kinds aggr)) f))) in
+      let size = ap (λ (s : Shown). s.size) e in
+      omega (arith, size, h, m);
+}
+
+fresh_held : (t : Truth) (layout : Layout) → IsHeldSequential (fresh_inodes t layout)
+fresh_held t layout = record {
+  file = λ f below held.
+      absurd (false≢true (sym (mounted_closed (worst (infos_of t (file_at (fresh_inodes t layout) f))) (4096 * holds (infos_of t (file_at (fresh_inodes t layout) f)))) ∙ sym (ap (λ (s : Shown). s.held_open) (fresh_shown t layout f below)) ∙ held));
+}
+
+pub fresh_agrees : (v w : World) (aggr : Bool) (inodes : Inodes) (seen : handles.HandleState) (infos scratch : ℕ) → IsSound v.truth → IsWithinLimits (geometry_of v) → geometry_of w ≡ geometry_of v
+    → inodes ≡ fresh_inodes v.truth (layout_of (geometry v.truth).kinds aggr) → seen.cnv ≡ length inodes.layout.cnv → seen.files ≡ length (files_of inodes.layout)
     → infos ≡ length (geometry_of v).kinds → scratch ≡ 4096 * 257 → Agrees w inodes seen infos scratch
 unfolding geometry_of
-fresh_agrees v w inodes seen infos scratch sound limits same is cnv known places blocks =
-    let g = geometry v.truth in
-    let zones = layout_zones (geometry v.truth) limits.some in
-    let file : (f : ℕ) → f < length (files_of (layout_of (geometry v.truth) false)) → IsFile (geometry v.truth) (file_at (fresh_inodes v.truth (layout_of (geometry v.truth) false)) f) =
-    λ f below. is_file (geometry v.truth) (file_at (fresh_inodes v.truth (layout_of (geometry v.truth) false)) f) limits (zones f no_file below) in
-    let fresh : Inodes = fresh_inodes v.truth (layout_of (geometry v.truth) false) in
+fresh_agrees v w aggr inodes seen infos scratch sound limits same is cnv known places blocks =
+    let fresh : Inodes = fresh_inodes v.truth (layout_of (geometry v.truth).kinds aggr) in
     record {
       files = subst (λ (i : Inodes). (f : ℕ) → f < length (files_of i.layout) → IsFile (geometry_of w) (file_at i f)) (sym is)
-          (λ f below. subst (λ (g : Geometry). IsFile g (file_at (fresh_inodes v.truth (layout_of (geometry v.truth) false)) f)) (sym same) (file f below));
-      conventional = subst (λ (i : Inodes). (f : ℕ) → f < length i.layout.cnv → (file_at i f).sequential ≡ false) (sym is) (first_kind (geometry v.truth) limits.some);
-      sequential = subst (λ (i : Inodes). (f : ℕ) → length i.layout.cnv ≤ f → f < length (files_of i.layout) → (file_at i f).sequential ≡ true) (sym is) (second_kind (geometry v.truth) limits.some);
-      sizes = subst (λ (i : Inodes). IsWithinRoom i) (sym is) (record {
-        size = λ f below.
-            let e = fresh_shown v.truth (layout_of (geometry v.truth) false) f below in
-            let h = holds_file v (file_at (fresh_inodes v.truth (layout_of (geometry v.truth) false)) f) sound (file f below) in
-            let m = mounted_size (worst (infos_of v.truth (file_at (fresh_inodes v.truth (layout_of (geometry v.truth) false)) f))) (4096 * holds (infos_of v.truth (file_at (fresh_inodes v.truth (layout_of (geometry v.truth) false)) f))) in
-            let size = ap (λ (s : Shown). s.size) e in
-            omega (arith, size, h, m);
-      });
-      held = subst (λ (i : Inodes). IsHeldSequential i) (sym is) (record {
-        file = λ f below held.
-            clash (sym held ∙ ap (λ (s : Shown). s.held_open) (fresh_shown v.truth (layout_of (geometry v.truth) false) f below)
-            ∙ mounted_closed (worst (infos_of v.truth (file_at (fresh_inodes v.truth (layout_of (geometry v.truth) false)) f))) _);
-      });
+          (λ f below. subst (λ (g : Geometry). IsFile g (file_at (fresh_inodes v.truth (layout_of (geometry v.truth).kinds aggr)) f)) (sym same) (layout_file (geometry v.truth) aggr f limits below));
+      conventional = subst (λ (i : Inodes). (f : ℕ) → f < length i.layout.cnv → (file_at i f).seq ≡ false) (sym is) (layout_cnv (geometry v.truth).kinds aggr);
+      sequential = subst (λ (i : Inodes). (f : ℕ) → length i.layout.cnv ≤ f → f < length (files_of i.layout) → (file_at i f).seq ≡ true) (sym is) (layout_seq (geometry v.truth).kinds aggr);
+      single = subst (λ (i : Inodes). (f : ℕ) → f < length (files_of i.layout) → (file_at i f).seq ≡ true → (file_at i f).zones ≡ 1) (sym is) (layout_single (geometry v.truth).kinds aggr);
+      shape = ap (λ (i : Inodes). i.shape) is ∙ ap (λ (g : Geometry). g.shape) (sym same);
+      sizes = subst (λ (i : Inodes). IsWithinRoom i) (sym is) (fresh_sizes v aggr sound limits);
+      held = subst (λ (i : Inodes). IsHeldSequential i) (sym is) (fresh_held v.truth (layout_of (geometry v.truth).kinds aggr));
       cnv = cnv;
       known = known;
       places = places ∙ ap (λ (g : Geometry). length g.kinds) (sym same);
       blocks = omega (arith, blocks);
     }
-  where
-    first_kind : (g : Geometry) → 1 ≤ length g.kinds → (f : ℕ) → f < length (layout_of g false).cnv → (slice_index_or (files_of (layout_of g false)) f no_file).sequential ≡ false
-    first_kind g some f below =
-        ap (λ (file : FileZones). file.sequential) (get_or_append_left (layout_of g false).cnv (layout_of g false).seq no_file f below)
-        ∙ All-same (λ file. file.sequential ≡ false) (layout_of g false).cnv (files_of_kind g false) (cnv_is g some) (kind_alike g false) f no_file below
 
-    second_kind : (g : Geometry) → 1 ≤ length g.kinds → (f : ℕ) → length (layout_of g false).cnv ≤ f → f < length (files_of (layout_of g false)) → (slice_index_or (files_of (layout_of g false)) f no_file).sequential ≡ true
-    second_kind g some f from below =
-        let at : length (layout_of g false).cnv + (f - length (layout_of g false).cnv) ≡ f = omega arith in
-        ap (λ (k : ℕ). (slice_index_or (files_of (layout_of g false)) k no_file).sequential) (sym at)
-        ∙ ap (λ (file : FileZones). file.sequential) (get_or-append-add (layout_of g false).cnv (layout_of g false).seq (f - length (layout_of g false).cnv) no_file)
-        ∙ All-same (λ file. file.sequential ≡ true) (layout_of g false).seq (files_of_kind g true) (seq_is g some) (kind_alike g true) (f - length (layout_of g false).cnv) no_file
-        (omega (arith, length-append (layout_of g false).cnv (layout_of g false).seq))
+-- ---- the volume
+
+-- a volume of these parts
+volume_of : SuperBlock → MountOpts → Inodes → Handles → Volume
+volume_of super_block opts inodes handles = record { super_block = super_block; policy = opts.policy; explicit_open = opts.explicit_open; inodes = inodes; handles = handles; queue = fresh_queue }
+
+volume_is : (t : Truth) (super_block : SuperBlock) (opts : MountOpts) (inodes : Inodes) (handles : Handles) → inodes ≡ fresh_inodes t (layout_of (geometry t).kinds super_block.aggr_cnv) → handles ≡ fresh_handles
+    → fresh_volume t super_block opts ≡ volume_of super_block opts inodes handles
+unfolding fresh_volume volume_of
+volume_is t super_block opts inodes handles is fresh =
+    ap (λ (i : Inodes). volume_of super_block opts i fresh_handles) (sym is) ∙ ap (λ (h : Handles). volume_of super_block opts inodes h) (sym fresh)
+
+pub mounted_is : (opts : MountOpts) (super_block : SuperBlock) (old new : DeviceState) (inodes : Inodes) (handles : Handles) → old.spoilt ≡ false → Finds mount_orders (Ok super_block) old new
+    → inodes ≡ fresh_inodes old.world.truth (layout_of (geometry old.world.truth).kinds super_block.aggr_cnv) → handles ≡ fresh_handles
+    → IsMounted opts old (record { device = new; volume = record { super_block = super_block; policy = opts.policy; explicit_open = opts.explicit_open; inodes = inodes; handles = handles; queue = fresh_queue } })
+unfolding volume_of
+mounted_is opts super_block old new inodes handles unspoilt h is fresh =
+    let found = found_cases h.reply (found_in h.given old.world.truth) super_block h.is in
+    let done = subst (λ r. Ordered (mount_orders h.given old.world.truth) r old new) found.done h.done in
+    record {
+      given = h.given;
+      bytes = h.bytes;
+      answer = answer_is (Ok super_block) old new opts h (ap is_answered found.done)
+          ∙ ap (λ (v : Volume). let a : MountAnswer = record { reply = Ok v; world = new.world } in a) (volume_is old.world.truth super_block opts inodes handles is fresh);
+      device = only_world (mount_orders h.given old.world.truth) old new unspoilt done;
+      fresh = sym (volume_is old.world.truth super_block opts inodes handles is fresh);
+      formatted = found.is;
+      powered = done_powered (report_all old.world.truth) _ old new done;
+    }
 
 -- ---- handles after a mount
 
-abbrev opened_in : Result Volume MountError → ℕ
-opened_in (Ok volume) = volume.handles.opened
-opened_in (Err error) = 0
-
-bare_none : (o : Outcome) (r : Reply) (t : Truth) → opened_in (bare_reported o r t).reply ≡ 0
-unfolding fresh_volume
-bare_none o (Ok unit) t = refl
-bare_none o (Err error) t = refl
-
 -- no handle was opened since the mount
-pub none_opened : (v w : World) (volume : Volume) → bare_mount v ≡ record { reply = Ok volume; world = w } → volume.handles.opened ≡ 0
-unfolding bare_mount
-none_opened v w volume h = sym (ap (λ (a : MountAnswer). opened_in a.reply) h) ∙ bare_none (issue v (report_all v.truth)) (issue v (report_all v.truth)).reply v.truth
+pub none_opened : (opts : MountOpts) (old : DeviceState) (new : VolumeState) → IsMounted opts old new → new.volume.handles.opened ≡ 0
+unfolding fresh_volume
+none_opened opts old new h = ap (λ (v : Volume). v.handles.opened) h.fresh

@@ -11,7 +11,7 @@ use Rattle.std.proofs.lemmas.Option.{same_Some, none-some}
 use Rattle.std.proofs.lemmas.Slice.Eq.{bytes_eq-Decides}
 use Rattle.zn_base.specs.Decimals.{number_in}
 use Rattle.zn_model.specs.ZoneFiles.{Layout, cnv_path, seq_path, paths_of, file_named, names_to, some_names}
-use Rattle.zn_model.proofs.NumberWords.{number_in-decimal, decimal-number_in, cond_taken}
+use Rattle.zn_base.proofs.DecimalLaws.{number_in-decimal, decimal-number_in, cond_taken}
 use Rattle.zn_volume.specs.Paths.{number_behind, below, numbered}
 
 -- ---- the first that passes
@@ -57,8 +57,8 @@ from_below count i (Some n) is =
     let taken = cond_taken (ltb n count) (Some n) i is in
     (taken.1, omega (arith, ltb-true n count taken.0, same_Some n i taken.1))
 
-clash : {A : Type 0} (o : Option ℕ) (i : ℕ) → o ≡ None → o ≡ Some i → A
-clash o i none some = absurd (none-some i (sym none ∙ some))
+none_and_some : {A : Type 0} (o : Option ℕ) (i : ℕ) → o ≡ None → o ≡ Some i → A
+none_and_some o i none some = absurd (none-some i (sym none ∙ some))
 
 -- ---- the paths of all files
 
@@ -117,10 +117,10 @@ named_by layout path None (Some i) small first second =
     let from = from_below (length layout.seq) i (number_behind (codes "seq/") path) second in
     let inside : i < length layout.seq = from.1 in
     position_at (λ p. bytes_eq p path) (paths_of layout) (length layout.cnv + i) [] (omega (arith, paths-length layout))
-    (λ k before. each_path layout path k small (omega arith) (λ j _ is. clash _ j first is) (λ j at is. absurd (omega (arith, same_Some j i (sym is ∙ second)))))
+    (λ k before. each_path layout path k small (omega arith) (λ j _ is. none_and_some _ j first is) (λ j at is. absurd (omega (arith, same_Some j i (sym is ∙ second)))))
     ((bytes_eq-Decides _ path).1 (path_seq layout i inside ∙ behind (codes "seq/") path i from.0))
 named_by layout path None None small first second =
-    position_none (λ p. bytes_eq p path) (paths_of layout) [] (λ k inside. each_path layout path k small (omega (arith, paths-length layout)) (λ j _ is. clash _ j first is) (λ j _ is. clash _ j second is))
+    position_none (λ p. bytes_eq p path) (paths_of layout) [] (λ k inside. each_path layout path k small (omega (arith, paths-length layout)) (λ j _ is. none_and_some _ j first is) (λ j _ is. none_and_some _ j second is))
 
 -- the file of a path
 pub file_named_is : (layout : Layout) (path : List ℕ) (cnv seq : ℕ) → length layout.cnv ≡ cnv → length layout.seq ≡ seq → cnv + seq < 2 ^ 32

@@ -4,8 +4,8 @@ use Rattle.std.specs.Prelude.{option_map, if◌then◌else◌}
 use Rattle.std.proofs.lemmas.Option.{same_Some}
 use Rattle.zn_model.specs.declared.answers.Refusal.{Refusal}
 use Rattle.zn_model.specs.declared.answers.Refusal.TheVariants.{PowerLost}
-use Rattle.zn_model.specs.Table.{Mounted, Live}
-use Rattle.zn_handle.specs.Seen.{open_of}
+use Rattle.zn_model.specs.Volume.{Mounted, Live}
+use Rattle.zn_handle.specs.HandleState.{open_of}
 use Rattle.zn_handle.specs.declared.handles.Open.{Open}
 use Rattle.zn_volume.specs.Refusals.{IsRefusedBy, power_first, live_first}
 

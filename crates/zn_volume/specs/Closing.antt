@@ -5,7 +5,7 @@ use Rattle.zn_truth.specs.Orders.{Manage}
 use Rattle.zn_truth.specs.World.{issue}
 use Rattle.zn_model.specs.declared.answers.Refusal.{Refusal}
 use Rattle.zn_model.specs.Access.{writes}
-use Rattle.zn_model.specs.Table.{Mounted, file_at, shown_at, writers_of}
+use Rattle.zn_model.specs.Volume.{Mounted, file_at, shown_at, writers_of}
 use Rattle.zn_model.specs.CallAnswers.{Answer, answered}
 use Rattle.zn_model.specs.OpenClose.{after_close, unheld}
 use Rattle.zn_handle.specs.declared.handles.Open.{Open}

@@ -1,8 +1,9 @@
-pub mod Bare
-pub mod Seen
+pub mod VolumeState
 pub mod Means
 pub mod Closing
 pub mod Causes
+pub mod MountSteps
 pub mod Mounts
 pub mod Paths
 pub mod Refusals
+pub mod IoErrors

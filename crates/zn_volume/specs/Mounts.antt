@@ -1,24 +1,59 @@
--- What a mount owes that fails. (own)
-use Rattle.std.specs.Prelude.{◌≡◌, ◌⊎◌, ℕ, ◌<◌, ◌≤◌, Bool, true, false, length, Err}
+-- What a mount and an unmount owe. (own)
+use Rattle.std.specs.Prelude.{◌≡◌, ◌⊎◌, ◌↔◌, ℕ, ◌<◌, ◌≤◌, true, false, List, All, Ok, Err}
 use Rattle.zn_base.specs.Causes.{Rose}
-use Rattle.zn_truth.specs.Truth.{Geometry}
-use Rattle.zn_truth.specs.World.{World}
-use Rattle.zn_model.specs.declared.files.FileZones.{FileZones}
+use Rattle.zn_truth.specs.Truth.{Truth, zone_at, is_offline}
+use Rattle.zn_truth.specs.World.{geometry_of}
+use Rattle.zn_device.specs.States.{DeviceState}
 use Rattle.zn_model.specs.declared.answers.MountError.{MountError}
-use Rattle.zn_model.specs.declared.answers.MountError.TheVariants.{Broken, Memory}
-use Rattle.zn_volume.specs.Bare.{bare_mount, zone_file}
+use Rattle.zn_model.specs.declared.answers.MountError.TheVariants.{NotFormatted, IoError, PowerLost, Broken, Memory}
+use Rattle.zn_model.specs.declared.answers.Why.{Why}
+use Rattle.zn_model.specs.declared.files.MountOpts.{MountOpts}
+use Rattle.zn_model.specs.Mounting.{mount_call, fresh_volume}
+use Rattle.zn_volume.specs.Causes.{AreLeft}
+use Rattle.zn_volume.specs.MountSteps.{found_in}
+use Rattle.zn_volume.specs.VolumeState.{VolumeState}
 
--- A mount that fails answers what the report did, unless memory is wanting: then the device is as it was, or
--- as the report left it. `Broken` comes only where the count of breaks rose. No count falls.
-pub record MountCause (why : MountError) (spoilt : Bool) (old new : World) (faults0 faults breaks0 breaks : ℕ) : Type 0 where
-  pub reported : spoilt ≡ false → (why ≡ Memory → ⊥) → bare_mount old ≡ record { reply = Err why; world = new }
-  pub unreported : spoilt ≡ false → why ≡ Memory → (new ≡ old) ⊎ (new ≡ (bare_mount old).world)
-  pub spoiling : spoilt ≡ true → (why ≡ Broken) ⊎ (why ≡ Memory)
-  pub later : faults0 ≤ faults
-  pub no_fewer : breaks0 ≤ breaks
-  pub broken : why ≡ Broken → Rose breaks0 breaks
+-- the super block's zone is offline
+abbrev pub IsZone0Offline : Truth → Type 0
+IsZone0Offline t = is_offline (zone_at t 0).cond ≡ true
 
--- a file of one zone of a device
-pub record IsZoneFile (g : Geometry) (file : FileZones) : Type 0 where
-  pub is : file ≡ zone_file g file.first
-  pub inside : file.first < length g.kinds
+-- A mount that is done, where the read of the super block gave these bytes: the volume and the world are the mount's
+-- answer, and all else of the device stays. The volume is a fresh one, its super block is the device's, and the power
+-- is on.
+pub record IsMounted (opts : MountOpts) (old : DeviceState) (new : VolumeState) : Type 0 where
+  pub given : List ℕ
+  pub bytes : All (λ byte. byte < 256) given
+  pub answer : mount_call given old.world opts ≡ record { reply = Ok new.volume; world = new.device.world }
+  pub device : new.device ≡ record old { world = new.device.world }
+  pub fresh : new.volume ≡ fresh_volume old.world.truth new.volume.super_block opts
+  pub formatted : found_in given old.world.truth ≡ Ok new.volume.super_block
+  pub powered : new.device.world.powered ≡ true
+
+-- A mount that fails is the definition's answer, unless the device is spoilt, or memory was wanting: then that was
+-- before the first command, and the device is as it was. A device that isn't formatted stays as it was. `io-error`
+-- comes only where a fault did or the super block's zone is offline, `Broken` only where the count of breaks rose with
+-- the power on, and a loss of power is told exactly where the power is off. No count falls, and that of faults rises
+-- only where a fault that waited was used up.
+pub record MountCause (opts : MountOpts) (why : MountError) (old new : DeviceState) : Type 0 where
+  pub given : List ℕ
+  pub bytes : All (λ byte. byte < 256) given
+  pub answer : new.spoilt ≡ false → (why ≡ Memory → ⊥)
+      → mount_call given old.world opts ≡ record { reply = Err why; world = new.world }
+  pub wanting : new.spoilt ≡ false → why ≡ Memory → new ≡ old
+  pub spoiling : new.spoilt ≡ true → (why ≡ Broken) ⊎ (why ≡ Memory)
+  pub free : old.takes_memory ≡ false → why ≡ Memory → new ≡ old
+  pub not_formatted : (cause : Why) → why ≡ NotFormatted cause → found_in given old.world.truth ≡ Err cause
+  pub untouched : (cause : Why) → why ≡ NotFormatted cause → new ≡ old
+  pub io_error : why ≡ IoError → Rose old.faults new.faults ⊎ IsZone0Offline old.world.truth
+  pub lost : (why ≡ Memory → ⊥) → (why ≡ PowerLost) ↔ (new.world.powered ≡ false)
+  pub memory : new.takes_memory ≡ old.takes_memory
+  pub keeps : new.keeps_conditions ≡ old.keeps_conditions
+  pub later : old.faults ≤ new.faults
+  pub no_fewer : old.breaks ≤ new.breaks
+  pub broken : why ≡ Broken → Rose old.breaks new.breaks
+  pub whole : new.spoilt ≡ false → new.breaks ≡ old.breaks
+  pub powered : why ≡ Broken → old.world.powered ≡ true
+  pub still_powered : why ≡ Broken → new.world.powered ≡ true
+  pub left : new.spoilt ≡ false → AreLeft new.world.pending old.world.pending
+  pub no_fault : new.spoilt ≡ false → new.world.pending ≡ old.world.pending → new.faults ≡ old.faults
+  pub geometry : geometry_of new.world ≡ geometry_of old.world

@@ -2,16 +2,16 @@
 -- answered is told. (own)
 use Rattle.std.specs.Prelude.{◌≡◌, ℕ, Bool, true, false, List, Option, Some, None, Result, Ok, Err, if◌then◌else◌}
 use Rattle.zn_model.specs.declared.answers.Refusal.{Refusal}
-use Rattle.zn_model.specs.declared.answers.Refusal.TheVariants.{NoSuchFile, NotAllowed, Denied, FileOffline, FileReadOnly, FsReadOnly, BadHandle, BadMode, TooManyHandles, TooManyWriters, TooManyActive, TooManyOpen, Unaligned, TooBig, BadOffset, Busy, QueueFull, PoolEmpty, NothingQueued, NothingDone, IoError, PowerLost, Broken, Memory}
+use Rattle.zn_model.specs.declared.answers.Refusal.TheVariants.{NoSuchFile, BadHandle, TooManyActive, TooManyOpen, IoError, PowerLost, Broken, Memory}
 use Rattle.zn_model.specs.declared.handles.Handle.{Handle}
 use Rattle.zn_model.specs.declared.handles.Mode.{Mode}
 use Rattle.zn_model.specs.declared.handles.Who.{Who}
 use Rattle.zn_model.specs.ZoneFiles.{file_named, listing_of}
-use Rattle.zn_model.specs.Table.{Mounted, Live, live_at, is_queued_through}
-use Rattle.zn_model.specs.CallAnswers.{check_busy}
-use Rattle.zn_model.specs.OpenClose.{check_open}
-use Rattle.zn_model.specs.Reading.{check_read}
-use Rattle.zn_model.specs.Writing.{check_write}
+use Rattle.zn_model.specs.Volume.{Mounted, Live, live_at, is_queued_through}
+use Rattle.zn_model.specs.CallAnswers.{busy_refusal}
+use Rattle.zn_model.specs.OpenClose.{opening_refusal}
+use Rattle.zn_model.specs.Reading.{reading_refusal}
+use Rattle.zn_model.specs.Writing.{write_at_once}
 
 -- a refusal that tells what a device's command answered
 abbrev pub is_failure : Refusal → Bool
@@ -21,24 +21,12 @@ is_failure TooManyOpen = true
 is_failure PowerLost = true
 is_failure Broken = true
 is_failure Memory = true
-is_failure NoSuchFile = false
-is_failure NotAllowed = false
-is_failure Denied = false
-is_failure FileOffline = false
-is_failure FileReadOnly = false
-is_failure FsReadOnly = false
-is_failure BadHandle = false
-is_failure BadMode = false
-is_failure TooManyHandles = false
-is_failure TooManyWriters = false
-is_failure Unaligned = false
-is_failure TooBig = false
-is_failure BadOffset = false
-is_failure Busy = false
-is_failure QueueFull = false
-is_failure PoolEmpty = false
-is_failure NothingQueued = false
-is_failure NothingDone = false
+is_failure _ = false
+
+-- the result is such a refusal
+abbrev pub fails : {X : Type 0} → Result X Refusal → Bool
+fails (Ok value) = false
+fails (Err refusal) = is_failure refusal
 
 -- The checks' refusal is the answer; where they give none, only failures of the device are refusals.
 pub record IsRefusedBy {X : Type 0} (check : Option Refusal) (result : Result X Refusal) : Type 0 where
@@ -69,11 +57,12 @@ refusal_in (Some (Err refusal)) = Some refusal
 
 -- the refusal of an open by its checks
 abbrev pub open_refusal : Mounted → List ℕ → Mode → Who → Option Refusal
-open_refusal m path mode who = power_first m (file_first (file_named m.volume.inodes.layout path) (λ f. check_open m.world.truth.shape.max_open m.volume f mode who))
+open_refusal m path mode who =
+    power_first m (file_first (file_named m.volume.inodes.layout path) (λ f. opening_refusal m.world.truth.shape.max_open m.volume f mode who))
 
 -- of a close
 abbrev pub close_refusal : Mounted → Handle → Option Refusal
-close_refusal m h = power_first m (live_first (live_at m.volume.handles h) (λ live. check_busy (is_queued_through m.volume.queue live.handle)))
+close_refusal m h = power_first m (live_first (live_at m.volume.handles h) (λ live. busy_refusal (is_queued_through m.volume.queue live.handle)))
 
 -- of a size
 abbrev pub size_refusal : Mounted → Handle → Option Refusal
@@ -81,11 +70,11 @@ size_refusal m h = power_first m (live_first (live_at m.volume.handles h) (λ li
 
 -- of a read
 abbrev pub read_refusal : Mounted → Handle → ℕ → Option Refusal
-read_refusal m h offset = power_first m (live_first (live_at m.volume.handles h) (λ live. check_read m.volume live offset))
+read_refusal m h offset = power_first m (live_first (live_at m.volume.handles h) (λ live. reading_refusal m.volume live offset))
 
 -- of a write of so many bytes
 abbrev pub write_refusal : Mounted → Handle → ℕ → ℕ → Option Refusal
-write_refusal m h offset len = power_first m (live_first (live_at m.volume.handles h) (λ live. refusal_in (check_write m.volume live offset len)))
+write_refusal m h offset len = power_first m (live_first (live_at m.volume.handles h) (λ live. refusal_in (write_at_once m.volume live offset len)))
 
 -- a path must be that of a directory or a file
 abbrev pub named_first : Option (List (List ℕ)) → Option ℕ → Option Refusal

@@ -1,15 +1,19 @@
 //! A mounted volume over any zoned device.
 #![tactic(auto)]
 
+mod commands;
 mod looking;
 mod mounting;
 mod opening;
 mod paths;
+mod prepared;
 mod reading;
 #[cfg(test)]
 mod tests;
+mod unmounting;
 mod volume;
 mod writing;
 
 pub use mounting::MountFail;
+pub use unmounting::UnmountFail;
 pub use volume::Volume;

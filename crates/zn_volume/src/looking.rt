@@ -1,15 +1,16 @@
 // Calls that look, and the changes that are never allowed.
-ghost use Rattle.std.specs.Prelude.{◌≡◌, ◌<◌, ◌≤◌, length, false, option_map, true, All, AllPairs};
+ghost use Rattle.std.specs.Prelude.{◌≡◌, ◌<◌, ◌≤◌, length, false, option_map, All, AllPairs};
+ghost use Rattle.zn_model.specs.declared.limits.TheConstants.{MAX_HANDLES};
 ghost use Rattle.zn_model.specs.ZoneFiles.{files_of, listing_of};
-ghost use Rattle.zn_model.specs.Table.{max_handles};
 ghost use Rattle.zn_model.specs.Looks.{stat_call, entries_call, file_stat, directory_stat, mode_of as shown_mode, change_refusal};
 ghost use Rattle.zn_model.specs.Access.{unwritable as without_write};
 ghost use Rattle.zn_volume.specs.Refusals.{IsRefusedBy, stat_refusal, entries_refusal};
 ghost use Rattle.zn_volume.specs.Means.{spoils};
+ghost use Rattle.zn_volume.specs.VolumeState.{mounted_in};
 
 use crate::paths::entries_of_path;
 use crate::volume::Volume;
-use zn_device::{Tells, Zoned};
+use zn_device::Zoned;
 use zn_inode::room;
 use zn_model::{Refusal, Shown, Stat};
 
@@ -40,9 +41,9 @@ impl<D: Zoned + Drop> Volume<D> {
     ///
     /// Refused as `PowerLost` without power, and as `NoSuchFile` where there is none.
     #[tactic(auto, unfolding(zn_model::specs::Looks::stat_call))]
-    pub fn stat(&self, path: &[u8]) -> Result<Stat, Refusal>
-        ensures reply { result ≡ (stat_call self.now.mounted path.now).reply }
-        ensures refused { IsRefusedBy (stat_refusal self.now.mounted path.now) result }
+    pub fn stat(&self, path: &str) -> Result<Stat, Refusal>
+        ensures reply { result ≡ (stat_call (mounted_in self.now) path.now).reply }
+        ensures refused { IsRefusedBy (stat_refusal (mounted_in self.now) path.now) result }
         ensures told { spoils result ≡ false }
     {
         if !self.dev.powered() {
@@ -58,39 +59,40 @@ impl<D: Zoned + Drop> Volume<D> {
     }
 
     fn file_stat(&self, f: u32) -> Stat
-        requires { f < length (files_of self.now.mounted.volume.inodes.layout) }
-        ensures { result ≡ file_stat self.now.mounted.volume f }
+        requires { f < length (files_of self.now.volume.inodes.layout) }
+        ensures { result ≡ file_stat self.now.volume f }
     {
         let file = self.inodes.file(f);
         let shown = self.inodes.shown(f);
+        let owner = self.owner();
         Stat {
             dir: false,
             zone: file.first,
             zones: file.zones,
             size: shown.size,
-            blocks: 8 * room(&file),
-            mode: mode_of(self.perm, &shown),
-            uid: self.owner.uid,
-            gid: self.owner.gid,
+            blocks: 8 * room(&self.inodes.shape(), &file),
+            mode: mode_of(self.perm(), &shown),
+            uid: owner.uid,
+            gid: owner.gid,
             writers: self.handles.writers(f),
         }
     }
 
     /// How many entries the directory of a path has, where it is one.
-    fn entries_of(&self, path: &[u8]) -> Option<u32>
-        ensures { result ≡ option_map length (listing_of self.now.mounted.volume.inodes.layout path.now) }
+    fn entries_of(&self, path: &str) -> Option<u32>
+        ensures { result ≡ option_map length (listing_of self.now.volume.inodes.layout path.now) }
     {
         let cnv = self.inodes.cnv_files();
-        entries_of_path(path, cnv, self.inodes.files() - cnv)
+        entries_of_path(path.as_bytes(), cnv, self.inodes.files() - cnv)
     }
 
     /// The number of entries of the directory of a path.
     ///
     /// Refused as `PowerLost` without power, and as `NoSuchFile` where it isn't one.
     #[tactic(auto, unfolding(zn_model::specs::Looks::entries_call))]
-    pub fn entries(&self, path: &[u8]) -> Result<u32, Refusal>
-        ensures reply { result ≡ (entries_call self.now.mounted path.now).reply }
-        ensures refused { IsRefusedBy (entries_refusal self.now.mounted path.now) result }
+    pub fn entries(&self, path: &str) -> Result<u32, Refusal>
+        ensures reply { result ≡ (entries_call (mounted_in self.now) path.now).reply }
+        ensures refused { IsRefusedBy (entries_refusal (mounted_in self.now) path.now) result }
         ensures told { spoils result ≡ false }
     {
         if !self.dev.powered() {
@@ -101,8 +103,8 @@ impl<D: Zoned + Drop> Volume<D> {
 
     /// How many files `cnv` has, and how many `seq`.
     pub fn files(&self) -> (u32, u32)
-        ensures cnv { result.0 ≡ length self.now.mounted.volume.inodes.layout.cnv }
-        ensures seq { result.1 ≡ length self.now.mounted.volume.inodes.layout.seq }
+        ensures cnv { result.0 ≡ length self.now.volume.inodes.layout.cnv }
+        ensures seq { result.1 ≡ length self.now.volume.inodes.layout.seq }
     {
         let cnv = self.inodes.cnv_files();
         (cnv, self.inodes.files() - cnv)
@@ -110,19 +112,20 @@ impl<D: Zoned + Drop> Volume<D> {
 
     /// How many handles are live.
     pub fn live(&self) -> u32
-        ensures count { result ≡ length self.now.mounted.volume.handles.live }
-        ensures limit { result ≤ max_handles }
+        ensures count { result ≡ length self.now.volume.handles.live }
+        ensures limit { result ≤ MAX_HANDLES }
 
         // Each has a generation of its own, below the next one, and those opened later have greater ones.
-        ensures older { All (λ live. live.handle.generation < self.now.mounted.volume.handles.opened) self.now.mounted.volume.handles.live }
-        ensures rising { AllPairs (λ a b. a.handle.generation < b.handle.generation) self.now.mounted.volume.handles.live }
+        ensures older { All (λ live. live.handle.generation < self.now.volume.handles.opened)
+            self.now.volume.handles.live }
+        ensures rising { AllPairs (λ a b. a.handle.generation < b.handle.generation) self.now.volume.handles.live }
     {
         self.handles.live()
     }
 
     /// How many handles were opened since the mount: the generation of the next one.
     pub fn opened(&self) -> u64
-        ensures { result ≡ self.now.mounted.volume.handles.opened }
+        ensures { result ≡ self.now.volume.handles.opened }
     {
         self.handles.opened()
     }
@@ -132,19 +135,6 @@ impl<D: Zoned + Drop> Volume<D> {
         ensures { result ≡ change_refusal }
     {
         Refusal::NotAllowed
-    }
-}
-
-fn device_tells<D: Tells>(device: &D)
-    ensures { (D.world device.now).truth.told ≡ true }
-{}
-
-impl<D: Tells + Drop> Volume<D> {
-    /// Over a device that tells its bytes, a volume does.
-    pub fn tells(&self)
-        ensures { self.now.mounted.world.truth.told ≡ true }
-    {
-        device_tells(&self.dev)
     }
 }
 

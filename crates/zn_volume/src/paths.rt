@@ -32,7 +32,8 @@ fn number_below(directory: &[u8], path: &[u8], count: u32) -> Option<u32>
 #[tactic(auto, using(crate::proofs::Naming::file_named_is))]
 pub fn file_of_path(path: &[u8], cnv: u32, seq: u32) -> Option<u32>
     requires { cnv + seq < 2 ^ 32 }
-    ensures named { (layout : Layout) → length layout.cnv ≡ cnv → length layout.seq ≡ seq → result ≡ file_named layout path.now }
+    ensures named { (layout : Layout) → length layout.cnv ≡ cnv → length layout.seq ≡ seq →
+        result ≡ file_named layout path.now }
     ensures small { IfSome result (λ f. f < cnv + seq) }
 {
     match number_below(b"cnv/", path, cnv) {
@@ -47,7 +48,8 @@ pub fn file_of_path(path: &[u8], cnv: u32, seq: u32) -> Option<u32>
 /// How many entries the directory of a path has, where it is one that exists.
 #[tactic(auto, unfolding(zn_model::specs::ZoneFiles::listing_of))]
 pub fn entries_of_path(path: &[u8], cnv: u32, seq: u32) -> Option<u32>
-    ensures { (layout : Layout) → length layout.cnv ≡ cnv → length layout.seq ≡ seq → result ≡ option_map length (listing_of layout path.now) }
+    ensures { (layout : Layout) → length layout.cnv ≡ cnv → length layout.seq ≡ seq →
+        result ≡ option_map length (listing_of layout path.now) }
 {
     if path == b"/".as_slice() {
         Some(u32::from(cnv > 0) + u32::from(seq > 0))

@@ -1,18 +1,22 @@
 // What a volume keeps, and what its calls share.
 ghost use Rattle.std.specs.Prelude.{◌≡◌, ◌<◌, length, Bool, true, false};
 ghost use Rattle.zn_model.specs.ZoneFiles.{files_of};
+ghost use Rattle.zn_model.specs.Volume.{capacity_at};
+ghost use Rattle.zn_model.specs.OpenClose.{owner_of};
 ghost use Rattle.zn_model.specs.Recovery.{refusal_of, after_failure};
+ghost use Rattle.zn_io.specs.Findings.{told_by};
 ghost use Rattle.zn_volume.specs.Causes.{RecoveryCause};
 ghost use Rattle.zn_volume.specs.Means.{is_spoiling};
 ghost use Rattle.zn_volume.specs.Refusals.{is_failure};
-ghost use Rattle.zn_volume.specs.Seen.{Seen};
+ghost use Rattle.zn_volume.specs.VolumeState.{mounted_in};
 
 use std::marker::Model;
 use zn_device::Zoned;
 use zn_handle::Handles;
-use zn_inode::Inodes;
+use zn_inode::{Inodes, capacity};
 use zn_io::{is_passed_on, recover_file};
 use zn_model::{Policy, Refusal, Who};
+use zn_super::Super;
 use zn_truth::{DevError, ZoneInfo};
 
 /// A mounted volume. No call of it takes memory, but where the device's commands do.
@@ -21,8 +25,7 @@ pub struct Volume<D: Zoned + Drop> {
     pub(crate) dev: D,
     pub(crate) policy: Policy,
     pub(crate) explicit_open: bool,
-    pub(crate) owner: Who,
-    pub(crate) perm: u32,
+    pub(crate) super_block: Super,
     pub(crate) inodes: Inodes,
     pub(crate) handles: Handles,
     /// A place for each zone of the device, for reports.
@@ -32,31 +35,26 @@ pub struct Volume<D: Zoned + Drop> {
 }
 
 impl<D: Zoned + Drop> Model for Volume<D> {
-    ghost use Rattle.std.specs.Prelude.{[], false, length};
+    ghost use Rattle.std.specs.Prelude.{length};
     ghost use Rattle.zn_model.specs.Mounting.{fresh_queue};
-    ghost use Rattle.zn_volume.specs.Seen.{Seen, Agrees};
+    ghost use Rattle.zn_volume.specs.VolumeState.{VolumeState, Agrees};
 
-    ghost Value = { Seen };
+    ghost Value = { VolumeState };
 
     ghost view = { λ v. record {
-      mounted = record {
-        world = D.world v.dev;
-        volume = record {
-          super_block = record { label = []; uuid = []; aggr_cnv = false; uid = v.owner.uid; gid = v.owner.gid; perm = v.perm };
-          policy = v.policy;
-          explicit_open = v.explicit_open;
-          inodes = v.inodes;
-          handles = v.handles.handles;
-          queue = fresh_queue;
-        };
+      device = D.state v.dev;
+      volume = record {
+        super_block = v.super_block;
+        policy = v.policy;
+        explicit_open = v.explicit_open;
+        inodes = v.inodes;
+        handles = v.handles.handles;
+        queue = fresh_queue;
       };
-      spoilt = D.is_spoilt v.dev;
-      faults = D.fault_count v.dev;
-      breaks = D.break_count v.dev;
-      takes_memory = D.takes_memory v.dev;
     } };
 
-    ghost invariant = { λ v. Agrees (D.world v.dev) v.inodes v.handles (length v.infos.items) (length v.scratch.items) };
+    ghost invariant = { λ v. Agrees (D.state v.dev).world v.inodes v.handles (length v.infos.items)
+        (length v.scratch.items) };
 }
 
 /// A failure of the device, as a call tells it.
@@ -78,62 +76,97 @@ pub fn refusal(error: DevError) -> Refusal
     }
 }
 
+/// What is told after a recovery: the failure that it passes on, or else the refusal that was to be told.
+fn told(recovered: Result<bool, DevError>, refusal: Refusal) -> Refusal
+    requires failure { is_failure refusal ≡ true }
+    ensures told { result ≡ told_by recovered refusal }
+    ensures failure { is_failure result ≡ true }
+{
+    match recovered {
+        Err(lost) => self::refusal(lost),
+        Ok(_) => refusal,
+    }
+}
+
 impl<D: Zoned + Drop> Volume<D> {
     /// What follows a failed command of a call on a file: the refusal that is told.
-    #[tactic(auto, unfolding(zn_model::specs::Recovery::after_failure, zn_model::specs::Recovery::recovered))]
+    #[tactic(auto, using(crate::proofs::Causing::passed_caused), unfolding(zn_model::specs::Recovery::after_failure, zn_model::specs::Recovery::recovered))]
     pub(crate) fn recover(&mut self, f: u32, error: DevError, after_read: bool) -> Refusal
-        requires known { f < length (files_of self.old.mounted.volume.inodes.layout) }
-        requires spoilt { self.old.spoilt ≡ is_spoiling (refusal_of error) }
-        ensures refusal { self.new.spoilt ≡ false → result ≡ (after_failure after_read error self.old.mounted f).refusal }
-        ensures mounted { self.new.spoilt ≡ false → self.new.mounted ≡ (after_failure after_read error self.old.mounted f).mounted }
-        ensures cause { RecoveryCause error result self.old self.new }
+        requires known { f < length (files_of self.old.volume.inodes.layout) }
+        requires spoilt { self.old.device.spoilt ≡ is_spoiling (refusal_of error) }
+        ensures refusal { self.new.device.spoilt ≡ false →
+            result ≡ (after_failure after_read error (mounted_in self.old) f).refusal }
+        ensures mounted { self.new.device.spoilt ≡ false →
+            mounted_in self.new ≡ (after_failure after_read error (mounted_in self.old) f).mounted }
+        ensures cause { RecoveryCause error result self.old.device self.new.device }
         ensures failure { is_failure result ≡ true }
     {
         let refusal = refusal(error);
         if is_passed_on(error) {
             return refusal;
         }
-        match recover_file(
+        let recovered = recover_file(
             &mut self.dev,
             &mut self.inodes,
             f,
             self.policy,
             after_read,
             &mut self.infos,
-        ) {
-            Err(lost) => self::refusal(lost),
-            Ok(_) => refusal,
+        );
+        told(recovered, refusal)
+    }
+
+    /// The bytes that a file has room for.
+    pub(crate) fn capacity(&self, f: u32) -> u64
+        requires { f < length (files_of self.now.volume.inodes.layout) }
+        ensures { result ≡ capacity_at self.now.volume.inodes f }
+    {
+        capacity(&self.inodes.shape(), &self.inodes.file(f))
+    }
+
+    /// The user and the group that own the files.
+    pub(crate) fn owner(&self) -> Who
+        ensures { result ≡ owner_of self.now.volume }
+    {
+        let super_block = &self.super_block;
+        Who {
+            uid: super_block.uid,
+            gid: super_block.gid,
         }
+    }
+
+    /// The permissions of the files.
+    pub(crate) fn perm(&self) -> u32
+        ensures { result ≡ self.now.volume.super_block.perm }
+    {
+        let super_block = &self.super_block;
+        super_block.perm
     }
 
     /// Whether the device has power.
     pub fn powered(&self) -> bool
-        ensures { result ≡ self.now.mounted.world.powered }
+        ensures { result ≡ self.now.device.world.powered }
     {
         self.dev.powered()
     }
 
     /// How often what the device is kept in has failed.
     pub fn breaks(&self) -> u64
-        ensures { result ≡ self.now.breaks }
+        ensures { result ≡ self.now.device.breaks }
     {
         self.dev.breaks()
     }
 
     /// The device.
     pub fn device(&self) -> &D
-        ensures world { D.world result.now ≡ self.now.mounted.world }
-        ensures faults { D.fault_count result.now ≡ self.now.faults }
-        ensures breaks { D.break_count result.now ≡ self.now.breaks }
+        ensures { D.state result.now ≡ self.now.device }
     {
         &self.dev
     }
 
     /// Gives the device back as it is.
     pub fn into_device(self) -> D
-        ensures world { D.world result ≡ self.mounted.world }
-        ensures counts { (D.fault_count result ≡ self.faults) × (D.break_count result ≡ self.breaks) }
-        ensures spoilt { D.is_spoilt result ≡ self.spoilt }
+        ensures { D.state result ≡ self.device }
     {
         let Volume { dev, .. } = self;
         dev

@@ -1,20 +1,22 @@
 // Writes.
 ghost use Rattle.std.specs.Prelude.{◌≡◌, ◌≤◌, ◌<◌, length, Some, true, false, IfErr, IfSome, IfNone};
+ghost use Rattle.zn_model.specs.declared.limits.TheConstants.{MOST_BYTES};
 ghost use Rattle.zn_model.specs.ZoneFiles.{files_of};
-ghost use Rattle.zn_model.specs.Table.{file_at, shown_at, Live};
-ghost use Rattle.zn_model.specs.Writing.{write_call, write_by, write_now, check_write};
+ghost use Rattle.zn_model.specs.Volume.{file_at, shown_at, Live};
+ghost use Rattle.zn_model.specs.Writing.{write_call, write_by, write_now, write_at_once};
 ghost use Rattle.zn_io.specs.Files.{IsWritable};
 ghost use Rattle.zn_volume.specs.Causes.{CallCause};
-ghost use Rattle.zn_volume.specs.Refusals.{is_failure, IsRefusedBy, refusal_in, write_refusal};
-ghost use Rattle.zn_volume.specs.Means.{spoils};
+ghost use Rattle.zn_volume.specs.VolumeState.{mounted_in, ForLive};
+ghost use Rattle.zn_volume.specs.Refusals.{is_failure, fails, IsRefusedBy, refusal_in, write_refusal};
+ghost use Rattle.zn_volume.specs.IoErrors.{IoErrorCause, IoErrorThrough};
 
 use crate::volume::Volume;
 use bitflags::Flags;
 use zn_device::Zoned;
 use zn_handle::Open;
-use zn_inode::capacity;
 use zn_io::write_file;
 use zn_model::{Handle, Mode, Refusal};
+use zn_truth::BLOCK_SIZE;
 
 impl<D: Zoned + Drop> Volume<D> {
     /// Writes bytes to the file of a handle, at an offset in bytes.
@@ -26,12 +28,15 @@ impl<D: Zoned + Drop> Volume<D> {
     /// `TooManyOpen`, `PowerLost`, `Broken` or `Memory`, and is followed by recovery.
     #[tactic(auto, using(crate::proofs::Causing::still_caused), unfolding(zn_model::specs::Writing::write_call))]
     pub fn write(&mut self, h: Handle, offset: u64, bytes: &[u8]) -> Result<(), Refusal>
-        requires unspoilt { self.old.spoilt ≡ false }
-        requires len { length bytes.now ≤ 1048576 }
-        ensures reply { self.new.spoilt ≡ false → result ≡ (write_call self.old.mounted h offset bytes.now).reply }
-        ensures mounted { self.new.spoilt ≡ false → self.new.mounted ≡ (write_call self.old.mounted h offset bytes.now).mounted }
-        ensures refused { IsRefusedBy (write_refusal self.old.mounted h offset (length bytes.now)) result }
-        ensures cause { CallCause result self.old self.new }
+        requires unspoilt { self.old.device.spoilt ≡ false }
+        requires len { length bytes.now ≤ MOST_BYTES }
+        ensures reply { self.new.device.spoilt ≡ false →
+            result ≡ (write_call (mounted_in self.old) h offset bytes.now).reply }
+        ensures mounted { self.new.device.spoilt ≡ false →
+            mounted_in self.new ≡ (write_call (mounted_in self.old) h offset bytes.now).mounted }
+        ensures refused { IsRefusedBy (write_refusal (mounted_in self.old) h offset (length bytes.now)) result }
+        ensures io_error { IoErrorThrough h result self.old self.new }
+        ensures cause { CallCause result self.old.device self.new.device }
     {
         if !self.dev.powered() {
             return Err(Refusal::PowerLost);
@@ -43,18 +48,21 @@ impl<D: Zoned + Drop> Volume<D> {
     }
 
     /// The first refusal of a write, or its answer where there is nothing to do.
-    #[tactic(auto, unfolding(zn_model::specs::Writing::check_write))]
-    fn check_write(&self, on: &Open, offset: u64, len: usize) -> Option<Result<(), Refusal>>
-        requires known { on.now.file < length (files_of self.now.mounted.volume.inodes.layout) }
-        requires len { len ≤ 1048576 }
-        ensures is { (live : Live) → live.file ≡ on.now.file → live.mode ≡ on.now.mode → result ≡ check_write self.now.mounted.volume live offset len }
-        ensures told { IfSome result (λ reply. spoils reply ≡ false) }
-        ensures writable { IfNone result (IsWritable (file_at self.now.mounted.volume.inodes on.now.file) (shown_at self.now.mounted.volume.inodes on.now.file) offset len) }
+    #[tactic(auto, unfolding(zn_model::specs::Writing::write_at_once))]
+    fn write_at_once(&self, on: &Open, offset: u64, len: usize) -> Option<Result<(), Refusal>>
+        requires known { on.now.file < length (files_of self.now.volume.inodes.layout) }
+        requires len { len ≤ MOST_BYTES }
+        ensures is { ForLive on.now (λ live. result ≡ write_at_once self.now.volume live offset len) }
+        ensures told { IfSome result (λ reply. fails reply ≡ false) }
+        ensures writable { IfNone result (IsWritable self.now.volume.inodes.shape
+            (file_at self.now.volume.inodes on.now.file) (shown_at self.now.volume.inodes on.now.file) offset len) }
+        ensures at_end { IfNone result ((file_at self.now.volume.inodes on.now.file).seq ≡ true →
+            offset ≡ (shown_at self.now.volume.inodes on.now.file).size) }
     {
         let file = self.inodes.file(on.file);
         let shown = self.inodes.shown(on.file);
         let len = len as u64;
-        let capacity = capacity(&file);
+        let capacity = self.capacity(on.file);
         if !on.mode.contains(Mode::WRITE) {
             Some(Err(Refusal::BadMode))
         } else if self.inodes.read_only() {
@@ -65,11 +73,11 @@ impl<D: Zoned + Drop> Volume<D> {
             Some(Err(Refusal::FileReadOnly))
         } else if len == 0 {
             Some(Ok(()))
-        } else if offset % 4096 != 0 || len % 4096 != 0 {
+        } else if offset % BLOCK_SIZE as u64 != 0 || len % BLOCK_SIZE as u64 != 0 {
             Some(Err(Refusal::Unaligned))
         } else if capacity < len || capacity - len < offset {
             Some(Err(Refusal::TooBig))
-        } else if file.sequential && offset != shown.size {
+        } else if file.seq && offset != shown.size {
             Some(Err(Refusal::BadOffset))
         } else {
             None
@@ -77,17 +85,22 @@ impl<D: Zoned + Drop> Volume<D> {
     }
 
     /// Writes bytes to the file of a live handle.
-    #[tactic(auto, using(crate::proofs::Causing::still_caused))]
+    #[tactic(auto, using(crate::proofs::Causing::checked_caused, crate::proofs::IoErrors::checked_io))]
     fn write_by(&mut self, on: &Open, offset: u64, bytes: &[u8]) -> Result<(), Refusal>
-        requires known { on.now.file < length (files_of self.old.mounted.volume.inodes.layout) }
-        requires unspoilt { self.old.spoilt ≡ false }
-        requires len { length bytes.now ≤ 1048576 }
-        ensures reply { self.new.spoilt ≡ false → (live : Live) → live.file ≡ on.now.file → live.mode ≡ on.now.mode → result ≡ (write_by (Some live) self.old.mounted offset bytes.now).reply }
-        ensures mounted { self.new.spoilt ≡ false → (live : Live) → live.file ≡ on.now.file → live.mode ≡ on.now.mode → self.new.mounted ≡ (write_by (Some live) self.old.mounted offset bytes.now).mounted }
-        ensures refused { (live : Live) → live.file ≡ on.now.file → live.mode ≡ on.now.mode → IsRefusedBy (refusal_in (check_write self.old.mounted.volume live offset (length bytes.now))) result }
-        ensures cause { CallCause result self.old self.new }
+        requires known { on.now.file < length (files_of self.old.volume.inodes.layout) }
+        requires unspoilt { self.old.device.spoilt ≡ false }
+        requires len { length bytes.now ≤ MOST_BYTES }
+        ensures reply { self.new.device.spoilt ≡ false →
+            ForLive on.now (λ live. result ≡ (write_by (Some live) (mounted_in self.old) offset bytes.now).reply) }
+        ensures mounted { self.new.device.spoilt ≡ false →
+            ForLive on.now (λ live. mounted_in self.new ≡
+            (write_by (Some live) (mounted_in self.old) offset bytes.now).mounted) }
+        ensures refused { ForLive on.now (λ live. IsRefusedBy
+            (refusal_in (write_at_once self.old.volume live offset (length bytes.now))) result) }
+        ensures io_error { IoErrorCause result self.old.volume.inodes on.now.file self.old.device self.new.device }
+        ensures cause { CallCause result self.old.device self.new.device }
     {
-        match self.check_write(on, offset, bytes.len()) {
+        match self.write_at_once(on, offset, bytes.len()) {
             Some(reply) => reply,
             None => self.write_now(on.file, offset, bytes),
         }
@@ -96,13 +109,19 @@ impl<D: Zoned + Drop> Volume<D> {
     /// Writes bytes to a file, after the checks.
     #[tactic(auto, using(crate::proofs::Causing::spoils_alike, crate::proofs::Causing::answered_caused, crate::proofs::Causing::failed_caused, crate::proofs::Keeping::held_set), unfolding(zn_model::specs::Writing::write_now))]
     fn write_now(&mut self, f: u32, offset: u64, bytes: &[u8]) -> Result<(), Refusal>
-        requires known { f < length (files_of self.old.mounted.volume.inodes.layout) }
-        requires writable { IsWritable (file_at self.old.mounted.volume.inodes f) (shown_at self.old.mounted.volume.inodes f) offset (length bytes.now) }
-        requires unspoilt { self.old.spoilt ≡ false }
-        ensures reply { self.new.spoilt ≡ false → result ≡ (write_now self.old.mounted f offset bytes.now).reply }
-        ensures mounted { self.new.spoilt ≡ false → self.new.mounted ≡ (write_now self.old.mounted f offset bytes.now).mounted }
+        requires known { f < length (files_of self.old.volume.inodes.layout) }
+        requires at_end { (file_at self.old.volume.inodes f).seq ≡ true →
+            offset ≡ (shown_at self.old.volume.inodes f).size }
+        requires writable { IsWritable self.old.volume.inodes.shape (file_at self.old.volume.inodes f)
+            (shown_at self.old.volume.inodes f) offset (length bytes.now) }
+        requires unspoilt { self.old.device.spoilt ≡ false }
+        ensures reply { self.new.device.spoilt ≡ false →
+            result ≡ (write_now (mounted_in self.old) f offset bytes.now).reply }
+        ensures mounted { self.new.device.spoilt ≡ false →
+            mounted_in self.new ≡ (write_now (mounted_in self.old) f offset bytes.now).mounted }
         ensures failure { IfErr result (λ refusal. is_failure refusal ≡ true) }
-        ensures cause { CallCause result self.old self.new }
+        ensures io_error { IoErrorCause result self.old.volume.inodes f self.old.device self.new.device }
+        ensures cause { CallCause result self.old.device self.new.device }
     {
         let file = self.inodes.file(f);
         let mut shown = self.inodes.shown(f);

@@ -1,42 +1,35 @@
-use Rattle.std.proofs.Common.{length, refl, sym, ◌∙◌, subst}
-use Rattle.zn_model.specs.declared.answers.MountError.{MountError}
+use Rattle.std.proofs.Common.{◌≡◌, Bool, length, refl, sym, ap, ◌∙◌, subst}
+use Rattle.std.proofs.lemmas.Result.{err_from_is_err_and}
+use Rattle.zn_truth.specs.Limits.{IsWithinLimits}
+use Rattle.zn_truth.specs.Truth.{geometry}
+use Rattle.zn_model.specs.declared.files.MountOpts.{MountOpts}
+use Rattle.zn_model.specs.Mounting.{fresh_inodes}
+use Rattle.zn_model.specs.SuperBlock.{SuperBlock}
+use Rattle.zn_model.specs.ZoneFiles.{layout_of}
 use Rattle.zn_volume.specs.Mounts.{MountCause}
-use Rattle.zn_volume.proofs.Mounted.{mounted_is, report_failed, wanting_after, fresh_agrees, bare_inodes, geometry-of}
+use Rattle.zn_volume.proofs.MountCauses.{mount_caused}
+use Rattle.zn_volume.proofs.Mounted.{geometry-of, fresh_agrees}
 use Rattle.zn_volume.proofs.mounting.take_parts.Goals as goal
 
-pub returns-in-Err-clause-failed : goal.returns-in-Err-clause-failed
-returns-in-Err-clause-failed g c =
-    let D = g.D.Zoned in
-    subst (λ (why : MountError). MountCause why (g.D.Zoned.is_spoilt c.report_all.new.dev) (g.D.Zoned.world c.args.dev.now) (g.D.Zoned.world c.report_all.new.dev) (g.D.Zoned.fault_count c.args.dev.now) (g.D.Zoned.fault_count c.report_all.new.dev) (g.D.Zoned.break_count c.args.dev.now) (g.D.Zoned.break_count c.report_all.new.dev))
-    (sym c.mount_error.ensures)
-    (report_failed c.in-Err.error (D.is_spoilt c.report_all.new.dev) (D.world c.args.dev.now) (D.world c.report_all.new.dev) _ _ _ _ c.in-Err.ensures.step c.in-Err.ensures.spoilt c.in-Err.ensures.cause)
-
-pub returns-in_default-take_files-clause-failed : goal.returns-in_default-take_files-clause-failed
-returns-in_default-take_files-clause-failed g c =
-    let D = g.D.Zoned in
-    wanting_after (D.is_spoilt c.report_all.new.dev) (D.world c.args.dev.now) (D.world c.report_all.new.dev) _ _ _ _
-    c.in_default-report_all.ensures.step c.in_default-report_all.ensures.spoilt c.in_default-report_all.ensures.cause
-
-pub returns-clause-mounted : goal.returns-clause-mounted
-returns-clause-mounted g c =
-    let D = g.D.Zoned in
-    mounted_is (D.world c.args.dev.now) (D.world c.report_all.new.dev) c.in_default-report_all.ensures.step
+pub returns-in_err-super_block-clause-failed : goal.returns-in_err-super_block-clause-failed
+returns-in_err-super_block-clause-failed g c =
+    let within = subst IsWithinLimits (sym (geometry-of (g.D.Zoned.state c.args.dev.now).world)) (g.met.D.Zoned.is_within c.args.dev.now) in
+    let p = err_from_is_err_and c.from_residual.result c.from_residual.ensures.1 in
+    rw (p.1, p.2) (λ opts. mount_caused opts c.in_err-super_block.field-0.0 _ _ c.requires.unspoilt (g.met.D.Zoned.is_sound c.args.dev.now) within c.in_err-super_block.ensures.found)
 
 pub returns-clause-inodes : goal.returns-clause-inodes
 returns-clause-inodes g c =
-    let D = g.D.Zoned in
-    c.in-Ok-take_files.ensures.inodes (D.world c.args.dev.now).truth
-    (geometry-of (D.world c.args.dev.now) ∙ sym c.in_default-report_all.ensures.step.geometry)
-    (c.deref.ensures.value ∙ c.in_default-report_all.ensures.infos refl)
-    ∙ sym (bare_inodes (D.world c.args.dev.now).truth)
+    let same = geometry-of (g.D.Zoned.state c.args.dev.now).world ∙ sym c.in_ok-super_block.ensures.found.done.obeys.geometry in
+    c.filled.ensures.inodes (g.D.Zoned.state c.args.dev.now).world.truth same (c.in_ok-super_block.ensures.infos refl)
+    ∙ ap (λ (s : SuperBlock). fresh_inodes (g.D.Zoned.state c.args.dev.now).world.truth (layout_of (geometry (g.D.Zoned.state c.args.dev.now).world.truth).kinds s.aggr_cnv)) (sym c.filled.ensures.super_block)
 
 pub returns-clause-agrees : goal.returns-clause-agrees
 returns-clause-agrees g c =
     let D = g.D.Zoned in
-    fresh_agrees (D.world c.args.dev.now) (D.world c.report_all.new.dev) c.in-Ok-take_files.inodes c.in-Ok-take_files.handles (length c.report_all.new.infos.items) (length c.in-Ok.scratch.items)
-    (g.met.D.Zoned.is_sound c.args.dev.now) (g.met.D.Zoned.is_within c.args.dev.now) c.in_default-report_all.ensures.step.geometry
-    (c.in-Ok-take_files.ensures.inodes (D.world c.args.dev.now).truth
-    (geometry-of (D.world c.args.dev.now) ∙ sym c.in_default-report_all.ensures.step.geometry)
-    (c.deref.ensures.value ∙ c.in_default-report_all.ensures.infos refl))
-    c.in-Ok-take_files.ensures.cnv c.in-Ok-take_files.ensures.known
-    (c.in_default-report_all.ensures.places ∙ c.in-Ok.ensures.infos) c.in-Ok.ensures.scratch
+    let same = geometry-of (g.D.Zoned.state c.args.dev.now).world ∙ sym c.in_ok-super_block.ensures.found.done.obeys.geometry in
+    fresh_agrees (D.state c.args.dev.now).world (D.state c.carry_out.new.dev).world c.in_ok-super_block.super_block.aggr_cnv c.filled.result.inodes c.filled.result.handles (length c.filled.result.infos.items) (length c.filled.result.scratch.items)
+    (g.met.D.Zoned.is_sound c.args.dev.now) (g.met.D.Zoned.is_within c.args.dev.now) c.in_ok-super_block.ensures.found.done.obeys.geometry
+    (c.filled.ensures.inodes (D.state c.args.dev.now).world.truth same (c.in_ok-super_block.ensures.infos refl))
+    c.filled.ensures.cnv c.filled.ensures.known
+    (ap (λ v. length v.items) c.filled.ensures.infos ∙ c.in_ok-super_block.ensures.places ∙ c.in-Ok.ensures.infos)
+    (ap (λ v. length v.items) c.filled.ensures.scratch ∙ c.in_ok-super_block.ensures.room ∙ c.in-Ok.ensures.scratch)

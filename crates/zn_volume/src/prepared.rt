@@ -1,0 +1,90 @@
+// What a mount takes of memory, before it gives the device a command.
+ghost use Rattle.std.specs.Prelude.{◌≡◌, ◌*◌, ◌≤◌, length, false, true, IfOk};
+ghost use Rattle.zn_truth.specs.declared.limits.TheConstants.{BLOCK_SIZE, MAX_ZONES};
+ghost use Rattle.zn_truth.specs.World.{geometry_of};
+ghost use Rattle.zn_volume.specs.MountSteps.{ArePrepared};
+
+use std::alloc::{AllocError, Global};
+use zn_device::Zoned;
+use zn_handle::Handles;
+use zn_inode::Inodes;
+use zn_io::SCRATCH;
+use zn_model::Shown;
+use zn_report::layout;
+use zn_truth::{Cond, Kind, Shape, ZoneInfo, ZoneNo};
+
+/// Files of which nothing is shown yet, and room for their handles.
+#[derive(Drop)]
+pub(crate) struct Files {
+    pub(crate) inodes: Inodes,
+    pub(crate) handles: Handles,
+}
+
+/// The files without aggregation and with it, since only the super block tells which of them there are, a place for
+/// each zone of the device, and room for the blocks of a read.
+#[derive(Drop)]
+pub(crate) struct Room {
+    pub(crate) single: Files,
+    pub(crate) joined: Files,
+    pub(crate) infos: Vec<ZoneInfo>,
+    pub(crate) scratch: Vec<u8>,
+}
+
+/// The kind of each zone.
+fn kinds_of<D: Zoned>(alloc: Global, dev: &D) -> Result<Vec<Kind>, AllocError>
+    ensures { IfOk result (λ kinds. kinds.items ≡ (geometry_of (D.state dev.now).world).kinds) }
+{
+    let mut kinds = Vec::new(alloc);
+    for z in 0..dev.zones() {
+        kinds.push(dev.kind(ZoneNo(z)))?;
+    }
+    Ok(kinds)
+}
+
+/// The files of zones of these kinds.
+fn files_of(alloc: Global, kinds: &[Kind], aggr: bool, shape: Shape) -> Result<Files, AllocError>
+    requires some { 1 ≤ length kinds.now }
+    requires most { length kinds.now ≤ MAX_ZONES }
+    ensures { IfOk result (λ files. ArePrepared kinds.now aggr shape files.inodes files.handles) }
+{
+    let nothing = Shown {
+        size: 0,
+        may_read: false,
+        may_write: false,
+        held_open: false,
+    };
+    let layout = layout(alloc, kinds, aggr)?;
+    let handles = Handles::new(alloc, layout.cnv_files(), layout.files())?;
+    let shown = vec![in alloc; nothing; layout.files() as usize]?;
+    Ok(Files {
+        inodes: Inodes::new(layout, shown, shape),
+        handles,
+    })
+}
+
+/// All that a volume over this device needs.
+pub(crate) fn take_room<D: Zoned>(alloc: Global, dev: &D) -> Result<Room, AllocError>
+    ensures single { let g = geometry_of (D.state dev.now).world in
+        IfOk result (λ room. ArePrepared g.kinds false g.shape room.single.inodes room.single.handles) }
+    ensures joined { let g = geometry_of (D.state dev.now).world in
+        IfOk result (λ room. ArePrepared g.kinds true g.shape room.joined.inodes room.joined.handles) }
+    ensures infos { IfOk result (λ room. length room.infos.items ≡ length (geometry_of (D.state dev.now).world).kinds) }
+    ensures scratch { IfOk result (λ room. length room.scratch.items ≡ BLOCK_SIZE * 257) }
+{
+    let nothing = ZoneInfo {
+        cond: Cond::Offline,
+        held: 0,
+        explicit: false,
+    };
+    let kinds = kinds_of(alloc, dev)?;
+    let single = files_of(alloc, &kinds, false, dev.shape())?;
+    let joined = files_of(alloc, &kinds, true, dev.shape())?;
+    let infos = vec![in alloc; nothing; dev.zones() as usize]?;
+    let scratch = vec![in alloc; 0; SCRATCH]?;
+    Ok(Room {
+        single,
+        joined,
+        infos,
+        scratch,
+    })
+}
