@@ -8,10 +8,11 @@ use Rattle.std.proofs.lemmas.List.Sums.{fails_before_first}
 use Rattle.std.proofs.lemmas.Option.{none-some, same_Some}
 use Rattle.std.specs.List.{position, slice_split, All}
 use Rattle.std.specs.Option.{option_map, unwrap_or, MatchOption}
+use Rattle.zn_model.specs.declared.limits.TheConstants.{MOST_BYTES}
 use Rattle.zn_base.specs.Runs.{Run}
-use Rattle.zn_model.specs.Grammar.{most_bytes, is_plus, part_of, run_then, part_then, parts_on, data_of}
-use Rattle.zn_model.specs.Lines.{bytes_of}
-use Rattle.zn_model.proofs.NumberWords.{cond_taken}
+use Rattle.zn_lines.specs.Grammar.{is_plus, part_of, run_then, part_then, parts_on, data_of}
+use Rattle.zn_lines.specs.Lines.{bytes_of}
+use Rattle.zn_base.proofs.DecimalLaws.{cond_taken}
 use Rattle.zn_script.specs.Data.{PartFits, PartRefused, PartPut, HasLength}
 use Rattle.zn_script.specs.Meant.{runs_meant}
 use Rattle.zn_script.proofs.Splitting.{some_place, no_place}
@@ -160,7 +161,7 @@ put_none word out = record { upto = read_none word; put = refl }
 fits_put : (part : List ℕ) (at end : ℕ) (old new : List ℕ) → PartFits part at → PartPut part at end old new → (fits : PartFits part at) × (end ≡ at + fits.run.count) × (take end new ≡ take at old ++ replicate fits.run.count fits.run.byte)
 fits_put part at end old new known (run, read, sum, put) =
     let same : known.run ≡ run = same_Some _ _ (sym known.read ∙ read) in
-    let room : at + run.count ≤ most_bytes = omega (arith, known.room, ap (λ (r : Run). r.count) same) in
+    let room : at + run.count ≤ MOST_BYTES = omega (arith, known.room, ap (λ (r : Run). r.count) same) in
     (record { run = run; read = read; room = room }, sum, put)
 
 bytes_put : (front : List Run) (run : Run) (at end : ℕ) (old new : List ℕ) → take at old ≡ bytes_of front → take end new ≡ take at old ++ replicate run.count run.byte → take end new ≡ bytes_of (front ++ run ∷ [])
@@ -172,7 +173,7 @@ put_more word rest i at end old new p here some part =
     let f = fits_put (take i rest) at end old new (known_more word rest i at p.upto here some) part in
     record { upto = read_more word rest i at end p.upto here f.0 f.1; put = bytes_put p.upto.front f.0.run at end old new p.put f.2 }
 
-pub put_all : (word rest : List ℕ) (at end : ℕ) (old new : List ℕ) → IsPutUpTo word rest at old → position is_plus rest ≡ None → IsSome (data_of word) → PartPut rest at end old new → (take end new ≡ bytes_of (runs_meant word)) × (end ≡ length (bytes_of (runs_meant word))) × (end ≤ most_bytes)
+pub put_all : (word rest : List ℕ) (at end : ℕ) (old new : List ℕ) → IsPutUpTo word rest at old → position is_plus rest ≡ None → IsSome (data_of word) → PartPut rest at end old new → (take end new ≡ bytes_of (runs_meant word)) × (end ≡ length (bytes_of (runs_meant word))) × (end ≤ MOST_BYTES)
 put_all word rest at end old new p here some part =
     let f = fits_put rest at end old new (known_last word rest at p.upto here some) part in
     let all : runs_meant word ≡ p.upto.front ++ f.0.run ∷ [] = ap (λ o. unwrap_or o []) (read_all word rest at p.upto here f.0) in (

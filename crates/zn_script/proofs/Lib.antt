@@ -1,2 +1,4 @@
 pub mod Splitting
 pub mod DataParts
+pub mod WordValues
+pub mod ItemLoop

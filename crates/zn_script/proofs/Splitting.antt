@@ -5,9 +5,10 @@ use Rattle.std.proofs.lemmas.List.{take_all, drop-drop, length-drop, length-take
 use Rattle.std.proofs.lemmas.List.Splits.{slice_split_first, slice_split_none}
 use Rattle.std.proofs.lemmas.List.Sums.{fails_before_first}
 use Rattle.std.specs.List.{position, slice_split, All}
-use Rattle.zn_model.specs.Words.{Left, is_blank, ◌>>=◌, or_column, next_of, next, none_of, no_more, words_of}
-use Rattle.zn_model.specs.Grammar.{Verb, verb_of, line_of, line_with}
-use Rattle.zn_model.specs.Lines as lines
+use Rattle.zn_lines.specs.Words.{Left, is_blank, ◌>>=◌, behind, or_column, next_of, next, or_none, optional_of, optional, none_of, no_more, words_of}
+use Rattle.zn_lines.specs.declared.words.Verb.{Verb}
+use Rattle.zn_lines.specs.Grammar.{verb_of, line_of, line_with}
+use Rattle.zn_lines.specs.Lines as lines
 use Rattle.zn_script.specs.declared.Line.{Line}
 use Rattle.zn_script.specs.Meant.{GivesLine}
 use Rattle.zn_script.specs.Places.{left_at, NextWord}
@@ -22,7 +23,7 @@ words_in : (line : List ℕ) (at : ℕ) → at ≤ length line → (left_at line
 unfolding left_at
 words_in line at within = ap (λ b. cond b (slice_split is_blank (drop at line)) []) (le-leb _ _ within)
 
-words_past : (line : List ℕ) (at : ℕ) → length line < at → (left_at line at).words ≡ []
+pub words_past : (line : List ℕ) (at : ℕ) → length line < at → (left_at line at).words ≡ []
 unfolding left_at
 words_past line at past = let no : leb at (length line) ≡ false = grind (arith, nat_tests) in ap (λ b. cond b (slice_split is_blank (drop at line)) []) no
 
@@ -74,6 +75,30 @@ word_ok read x line at end w later is = word_reads read line at end w later ∙ 
 
 pub word_bad : {A : Type 0} (read : List ℕ → Option A) (line : List ℕ) (at end : ℕ) → NextWord line at end → at ≤ end → read (take (end - at) (drop at line)) ≡ None → next read (left_at line at) ≡ Err (at + 1)
 word_bad read line at end w later is = word_reads read line at end w later ∙ ap (λ o. or_column o (at + 1) (left_at line (end + 1))) is
+
+-- no word where one may stand
+pub optional_missing : {A : Type 0} (read : List ℕ → Option A) (line : List ℕ) (at : ℕ) → length line < at → optional read (left_at line at) ≡ Ok (None, left_at line at)
+unfolding left_at
+optional_missing read line at past =
+    let none : (left_at line at).words ≡ [] = words_past line at past in
+    ap (optional_of read (at + 1)) none ∙ ap (λ ws. let l : Left = record { column = at + 1; words = ws } in Ok (None, l)) (sym none)
+
+-- a word where one may stand
+optional_reads : {A : Type 0} (read : List ℕ → Option A) (line : List ℕ) (at end : ℕ) → NextWord line at end → at ≤ end → optional read (left_at line at) ≡ or_none (read (take (end - at) (drop at line))) (left_at line at) (left_at line (end + 1))
+unfolding left_at
+optional_reads read line at end w later =
+    let word = take (end - at) (drop at line) in
+    let rest = (left_at line (end + 1)).words in
+    let after : at + 1 + length word + 1 ≡ end + 1 + 1 = omega (arith, w.sized) in
+    ap (optional_of read (at + 1)) w.words
+    ∙ ap (λ ws. let l : Left = record { column = at + 1; words = ws } in or_none (read word) l (behind (at + 1) word rest)) (sym w.words)
+    ∙ ap (λ column. let l : Left = record { column = column; words = rest } in or_none (read word) (left_at line at) l) after
+
+pub optional_ok : {A : Type 0} (read : List ℕ → Option A) (x : A) (line : List ℕ) (at end : ℕ) → NextWord line at end → at ≤ end → read (take (end - at) (drop at line)) ≡ Some x → optional read (left_at line at) ≡ Ok (Some x, left_at line (end + 1))
+optional_ok read x line at end w later is = optional_reads read line at end w later ∙ ap (λ o. or_none o (left_at line at) (left_at line (end + 1))) is
+
+pub optional_stays : {A : Type 0} (read : List ℕ → Option A) (line : List ℕ) (at end : ℕ) → NextWord line at end → at ≤ end → read (take (end - at) (drop at line)) ≡ None → optional read (left_at line at) ≡ Ok (None, left_at line at)
+optional_stays read line at end w later is = optional_reads read line at end w later ∙ ap (λ o. or_none o (left_at line at) (left_at line (end + 1))) is
 
 -- no word too many, and one
 pub words_none : {A : Type 0} (value : A) (line : List ℕ) (at : ℕ) → length line < at → no_more value (left_at line at) ≡ Ok value

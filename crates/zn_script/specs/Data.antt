@@ -1,11 +1,14 @@
 -- What a part of data means, and how long data is.
 use Rattle.std.specs.Prelude.{◌≡◌, ◌≤◌, ℕ, ◌+◌, List, ◌++◌, length, take, replicate, IsSome, Option, Some, None}
+use Rattle.zn_lines.specs.declared.limits.TheConstants.{LAST_NUMBER}
+use Rattle.zn_model.specs.declared.limits.TheConstants.{MOST_BYTES}
 use Rattle.zn_base.specs.Runs.{Run}
-use Rattle.zn_model.specs.Lines.{bytes_of}
-use Rattle.zn_model.specs.Grammar.{last_number, most_bytes, part_of, part_then, data_of}
+use Rattle.zn_lines.specs.Lines.{bytes_of}
+use Rattle.zn_lines.specs.Grammar.{part_of, part_then, data_of}
+use Rattle.zn_script.specs.Items.{IsShort}
 use Rattle.zn_script.specs.declared.data.Part.{Part}
 use Rattle.zn_script.specs.declared.Line.{Line}
-use Rattle.zn_script.specs.declared.Line.TheVariants.{Open, Close, Size, Read, Write, Stat, List as Listing, Change}
+use Rattle.zn_script.specs.declared.Line.TheVariants.{Mkfs, Mount, Umount, Open, Close, Size, Read, Write, Stat, List as Listing, Change}
 
 -- the byte of the part, as often as the part counts
 abbrev pub run_meant : Part → Run
@@ -15,7 +18,11 @@ run_meant p = record { byte = p.byte; count = p.count }
 pub record PartFits (part : List ℕ) (total : ℕ) : Type 0 where
   pub run : Run
   pub read : part_of part ≡ Some run
-  pub room : total + run.count ≤ most_bytes
+  pub room : total + run.count ≤ MOST_BYTES
+
+-- the part has room behind so many bytes, and with it they are so many
+abbrev pub PartCounted : List ℕ → ℕ → ℕ → Type 0
+PartCounted part total more = (fits : PartFits part total) × (more ≡ total + fits.run.count)
 
 -- behind so many bytes, no data begins with the part
 abbrev pub PartRefused : List ℕ → ℕ → Type 0
@@ -31,13 +38,17 @@ pub record HasLength (word : List ℕ) (n : ℕ) : Type 0 where
   pub read : data_of word ≡ Some runs
   pub sized : length (bytes_of runs) ≡ n
 
--- a line's number is one that handles have, what it reads is not too long, and what it writes is data
+-- a line's number is one that handles have, what it reads is not too long, what it writes is data, and options are no
+-- longer than a line
 abbrev pub CallFits : Line → Type 0
-CallFits (Open number path mode) = number ≤ last_number
-CallFits (Close number) = number ≤ last_number
-CallFits (Size number) = number ≤ last_number
-CallFits (Read number offset len) = (number ≤ last_number) × (len ≤ most_bytes)
-CallFits (Write number offset word) = (number ≤ last_number) × IsSome (data_of word.now)
+CallFits (Mkfs words) = IsShort words.features
+CallFits (Mount text) = IsShort text
+CallFits Umount = Unit {0}
+CallFits (Open number path mode who) = number ≤ LAST_NUMBER
+CallFits (Close number) = number ≤ LAST_NUMBER
+CallFits (Size number) = number ≤ LAST_NUMBER
+CallFits (Read number offset len) = (number ≤ LAST_NUMBER) × (len ≤ MOST_BYTES)
+CallFits (Write number offset word) = (number ≤ LAST_NUMBER) × IsSome (data_of word.now)
 CallFits (Stat path) = Unit {0}
 CallFits (Listing path) = Unit {0}
 CallFits (Change change) = Unit {0}

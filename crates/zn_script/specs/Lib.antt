@@ -1,4 +1,6 @@
 pub mod Places
 pub mod Gives
+pub mod Items
 pub mod Meant
 pub mod Data
+pub mod Tables

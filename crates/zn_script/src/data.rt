@@ -1,17 +1,16 @@
 // Words that stand for data: parts `HH*C`, joined by plus signs.
-ghost use Rattle.std.specs.Prelude.{◌≡◌, ◌≤◌, ◌<◌, ◌+◌, length, take, position, IfOk, IfSome, IsSome, MatchOption, if◌then◌else◌};
-ghost use Rattle.zn_model.specs.Lines.{bytes_of};
-ghost use Rattle.zn_model.specs.Grammar.{is_plus, is_hex, hex_worth, part_of, data_of, most_bytes};
-ghost use Rattle.zn_model.specs.Words.{next};
+ghost use Rattle.std.specs.Prelude.{◌≡◌, ◌≤◌, ◌<◌, length, take, position};
+ghost use Rattle.std.specs.Prelude.{IfOk, IfSome, IsSome, MatchOption, if◌then◌else◌};
+ghost use Rattle.zn_lines.specs.Lines.{bytes_of};
+ghost use Rattle.zn_lines.specs.Grammar.{is_plus, is_hex, hex_worth, part_of, data_of};
+ghost use Rattle.zn_lines.specs.Words.{next};
 ghost use Rattle.zn_script.specs.Gives.{Gives};
-ghost use Rattle.zn_script.specs.Places.{left_at};
+ghost use Rattle.zn_script.specs.Places.{left_at, IsPlaceIn};
 ghost use Rattle.zn_script.specs.Meant.{runs_meant};
-ghost use Rattle.zn_script.specs.Data.{run_meant, PartFits, PartRefused, PartPut, HasLength};
+ghost use Rattle.zn_script.specs.Data.{run_meant, PartFits, PartCounted, PartRefused, PartPut, HasLength};
 
-use crate::words::{number, word_end};
-
-/// The most bytes that data stands for.
-pub const MOST_BYTES: u32 = 1_048_576;
+use crate::words::{number_in, word_end};
+use zn_model::MOST_BYTES;
 
 /// A byte so many times over.
 #[derive(Clone, Copy)]
@@ -29,7 +28,7 @@ fn plus_at(bytes: &[u8]) -> Option<usize>
 }
 
 /// What a hexadecimal digit in lower case is worth.
-fn hex_digit(byte: u8) -> Option<u8>
+fn hex_worth(byte: u8) -> Option<u8>
     ensures value { result ≡ (if is_hex byte then Some (hex_worth byte) else None) }
     ensures small { IfSome result (λ n. n < 16) }
 {
@@ -41,16 +40,16 @@ fn hex_digit(byte: u8) -> Option<u8>
 }
 
 /// The part that a word is.
-#[tactic(auto, unfolding(zn_model::specs::Grammar::part_of))]
+#[tactic(auto, unfolding(zn_lines::specs::Grammar::part_of))]
 fn parse_part(word: &[u8]) -> Option<Part>
     ensures value { MatchOption result (part_of word.now ≡ None) (λ p. part_of word.now ≡ Some (run_meant p)) }
-    ensures small { IfSome result (λ p. p.count ≤ most_bytes) }
+    ensures small { IfSome result (λ p. p.count ≤ MOST_BYTES) }
 {
     match word {
         [high, low, b'*', digits @ ..] => {
-            let high = hex_digit(*high)?;
-            let low = hex_digit(*low)?;
-            let count = number(digits, MOST_BYTES as u64)? as u32;
+            let high = hex_worth(*high)?;
+            let low = hex_worth(*low)?;
+            let count = number_in(digits, MOST_BYTES as u64)? as u32;
             let byte = high * 16 + low;
             Some(Part { byte, count })
         }
@@ -60,9 +59,9 @@ fn parse_part(word: &[u8]) -> Option<Part>
 
 /// The bytes of one part more, behind some: all counts together are limited.
 fn with_part(word: &[u8], total: u32) -> Option<u32>
-    requires { total ≤ most_bytes }
-    ensures value { MatchOption result (PartRefused word.now total) (λ more. (fits : PartFits word.now total) × (more ≡ total + fits.run.count)) }
-    ensures small { IfSome result (λ n. n ≤ most_bytes) }
+    requires { total ≤ MOST_BYTES }
+    ensures value { MatchOption result (PartRefused word.now total) (PartCounted word.now total) }
+    ensures small { IfSome result (λ n. n ≤ MOST_BYTES) }
 {
     let part = parse_part(word)?;
     let more = total + part.count;
@@ -72,7 +71,7 @@ fn with_part(word: &[u8], total: u32) -> Option<u32>
 /// How many bytes a word of data stands for, if it is one.
 pub fn data_len(word: &[u8]) -> Option<u32>
     ensures value { MatchOption result (data_of word.now ≡ None) (λ n. HasLength word.now n) }
-    ensures small { IfSome result (λ n. n ≤ most_bytes) }
+    ensures small { IfSome result (λ n. n ≤ MOST_BYTES) }
 {
     let mut rest = word;
     let mut total = 0u32;
@@ -86,7 +85,7 @@ pub fn data_len(word: &[u8]) -> Option<u32>
 /// Puts the bytes of one part behind those that are there, and answers where they end.
 fn expand_part(word: &[u8], out: &mut [u8], at: usize) -> usize
     requires part { PartFits word.now at }
-    requires room { most_bytes ≤ length out.old }
+    requires room { MOST_BYTES ≤ length out.old }
     ensures { PartPut word.now at result out.old out.new }
 {
     match parse_part(word) {
@@ -102,10 +101,10 @@ fn expand_part(word: &[u8], out: &mut [u8], at: usize) -> usize
 /// Puts the bytes that a word of data stands for in the front of `out`, and answers how many they are.
 pub fn expand(word: &[u8], out: &mut [u8]) -> usize
     requires data { IsSome (data_of word.now) }
-    requires room { most_bytes ≤ length out.old }
+    requires room { MOST_BYTES ≤ length out.old }
     ensures bytes { take result out.new ≡ bytes_of (runs_meant word.now) }
     ensures len { result ≡ length (bytes_of (runs_meant word.now)) }
-    ensures small { result ≤ most_bytes }
+    ensures small { result ≤ MOST_BYTES }
 {
     let mut rest = word;
     let mut at = 0usize;
@@ -118,10 +117,10 @@ pub fn expand(word: &[u8], out: &mut [u8]) -> usize
 
 /// The data at a place, and the place of the word after it.
 pub fn data_at(line: &[u8], at: usize) -> Result<(&[u8], usize), u32>
-    requires place { at ≤ length line.now + 1 }
-    requires short { length line.now ≤ 65536 }
-    ensures gives { Gives (λ x. (runs_meant x.0.now, left_at line.now x.1)) result (next data_of (left_at line.now at)) }
-    ensures place { IfOk result (λ x. x.1 ≤ length line.now + 1) }
+    requires { IsPlaceIn line.now at }
+    ensures gives { Gives (λ x. (runs_meant x.0.now, left_at line.now x.1)) result
+        (next data_of (left_at line.now at)) }
+    ensures place { IfOk result (λ x. IsPlaceIn line.now x.1) }
     ensures data { IfOk result (λ x. IsSome (data_of x.0.now)) }
 {
     if at > line.len() {

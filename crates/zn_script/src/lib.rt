@@ -3,51 +3,40 @@
 
 mod data;
 mod forms;
+mod items;
 mod words;
 
-pub use data::{MOST_BYTES, data_len, expand};
+pub use data::{data_len, expand};
 pub use forms::parse;
-use zn_model::Mode;
+use zn_lines::Change;
+use zn_model::{Mode, Who};
 
-/// The first word of a line.
+/// What a format is asked for. The texts are parts of the line.
 #[derive(Clone, Copy)]
-enum Verb {
-    Open,
-    Close,
-    Size,
-    Read,
-    Write,
-    Stat,
-    Listing,
-    Create,
-    Remove,
-    Rename,
-    Chmod,
-    Chown,
+pub struct FormatWords<'a> {
+    pub force: bool,
+    pub label: Option<&'a str>,
+    pub uuid: Option<&'a str>,
+    pub features: Option<&'a str>,
 }
 
-/// A change of names or attributes, which no volume allows.
-#[derive(Clone, Copy, Debug, PartialEq, Eq)]
-pub enum Change {
-    Create,
-    Remove,
-    Rename,
-    Chmod,
-    Chown,
-}
-
-/// A line of the grammar. Texts are words of the line.
+/// A line of the grammar. Paths, texts of options and data are words of the line, or parts of them.
 #[derive(Clone, Copy)]
 pub enum Line<'a> {
-    Open(u32, &'a [u8], Mode),
+    Mkfs(FormatWords<'a>),
+    /// The options, where there are some.
+    Mount(Option<&'a str>),
+    Umount,
+    /// A number for the handle, a path, a mode, and who opens.
+    Open(u32, &'a str, Mode, Who),
     Close(u32),
     Size(u32),
     /// A handle's number, an offset and a length in bytes.
     Read(u32, u64, u32),
     /// A handle's number, an offset in bytes, and a word of data, which `expand` takes.
     Write(u32, u64, &'a [u8]),
-    Stat(&'a [u8]),
-    List(&'a [u8]),
+    Stat(&'a str),
+    List(&'a str),
     Change(Change),
 }
 
@@ -55,6 +44,7 @@ pub enum Line<'a> {
 mod tests {
     use super::*;
     use std::test::Fail;
+    use zn_model::MOST_BYTES;
 
     #[test]
     fn columns_of_words_that_do_not_fit(rt: HostRuntime) {
@@ -66,7 +56,19 @@ mod tests {
             ("size 0 ", 8),
             ("size 2048", 6),
             ("size 007", 6),
+            ("mkfs forced", 6),
+            ("mkfs force label=", 12),
+            ("mkfs force uuid=a force", 19),
+            ("mkfs features=a label=b features=a", 25),
+            ("mount a b", 9),
+            ("mount ", 7),
+            ("umount now", 8),
             ("open 0 seq/1 x", 14),
+            ("open 0 seq/1 r gid=1 uid=1", 22),
+            ("open 0 seq/1 r uid=1 uid=1", 22),
+            ("open 0 seq/1 r uid=01", 16),
+            ("open 0 seq/1 r gid=4294967296", 16),
+            ("open 0 seq/1 uid=1", 14),
             ("write 0 0 61*1048577", 11),
             ("write 0 0 61*1048576+62*1", 11),
             ("chown a 0 4294967296", 11),
@@ -79,17 +81,52 @@ mod tests {
     }
 
     #[test]
-    fn lines_that_fit(rt: HostRuntime) -> Result<(), Fail> {
+    fn lines_that_fit(rt: HostRuntime) {
         assert!(rt; matches!(parse(b""), Ok(None)));
         assert!(rt; matches!(parse(b"#x"), Ok(None)));
-        assert!(rt;
-            matches!(
-                parse(b"open 2047 seq/0 rw"),
-                Ok(Some(Line::Open(2047, b"seq/0", Mode::READ_WRITE)))
-            )
-        );
+        assert!(rt; matches!(parse(b"umount"), Ok(Some(Line::Umount))));
+        assert!(rt; matches!(parse(b"mount"), Ok(Some(Line::Mount(None)))));
+        assert!(rt; matches!(parse(b"mount uid=1"), Ok(Some(Line::Mount(Some("uid=1"))))));
         assert!(rt; matches!(parse(b"read 1 4096 0"), Ok(Some(Line::Read(1, 4096, 0)))));
         assert!(rt; matches!(parse(b"rename a b"), Ok(Some(Line::Change(Change::Rename)))));
+    }
+
+    #[test]
+    fn users_that_are_left_out_are_0(rt: HostRuntime) {
+        for (line, uid, gid) in [
+            ("open 7 seq/0 rw", 0, 0),
+            ("open 7 seq/0 rw gid=7", 0, 7),
+            ("open 7 seq/0 rw uid=7", 7, 0),
+            ("open 7 seq/0 rw uid=4294967295 gid=1", 4294967295, 1),
+        ] {
+            match parse(line.as_bytes()) {
+                Ok(Some(Line::Open(7, "seq/0", Mode::READ_WRITE, who))) => {
+                    assert_eq!(rt; who, Who { uid, gid }, "{line}");
+                }
+                _ => assert!(rt; false, "{line}"),
+            }
+        }
+    }
+
+    #[test]
+    fn items_of_a_format_in_any_order(rt: HostRuntime) {
+        for line in [
+            "mkfs force label=data features=uid=1",
+            "mkfs features=uid=1 label=data force",
+        ] {
+            match parse(line.as_bytes()) {
+                Ok(Some(Line::Mkfs(words))) => {
+                    assert!(rt; words.force && words.uuid.is_none(), "{line}");
+                    assert!(rt; words.label == Some("data"), "{line}");
+                    assert!(rt; words.features == Some("uid=1"), "{line}");
+                }
+                _ => assert!(rt; false, "{line}"),
+            }
+        }
+    }
+
+    #[test]
+    fn data_is_expanded(rt: HostRuntime) -> Result<(), Fail> {
         let mut out = vec![in rt.alloc(); 0; MOST_BYTES as usize]?;
         match parse(b"write 0 0 61*2+62*1") {
             Ok(Some(Line::Write(0, 0, data))) => {

@@ -1,15 +1,41 @@
 // The words of a line.
-ghost use Rattle.std.specs.Prelude.{◌≡◌, ◌≤◌, ◌+◌, length, IfOk, IfSome, position, if◌then◌else◌};
+ghost use Rattle.std.specs.Prelude.{◌≡◌, ◌≤◌, length, IfOk, IfSome, MatchOption, option_copied, if◌then◌else◌, position};
 ghost use Rattle.zn_base.specs.Decimals.{number_in};
-ghost use Rattle.zn_model.specs.Words.{is_blank, next};
-ghost use Rattle.zn_model.specs.Grammar.{path_of, mode_in, verb_of};
-ghost use Rattle.zn_script.specs.Gives.{Gives, Reads};
-ghost use Rattle.zn_script.specs.Meant.{verb_meant};
-ghost use Rattle.zn_script.specs.Places.{left_at, NextWord};
+ghost use Rattle.zn_lines.specs.Words.{is_blank, next, optional};
+ghost use Rattle.zn_lines.specs.Grammar.{path_of, mode_in, after_key, text_after, user_after, verb_of};
+ghost use Rattle.zn_script.specs.Gives.{Gives};
+ghost use Rattle.zn_script.specs.Tables.{named_in};
+ghost use Rattle.zn_script.specs.Places.{left_at, IsPlaceIn, NextWord};
 
-use crate::Verb;
 use zn_base::parse_number;
+use zn_lines::Verb;
 use zn_model::Mode;
+
+/// The word of each verb.
+const VERBS: [(&str, Verb); 15] = [
+    ("mkfs", Verb::Mkfs),
+    ("mount", Verb::Mount),
+    ("umount", Verb::Umount),
+    ("open", Verb::Open),
+    ("close", Verb::Close),
+    ("size", Verb::Size),
+    ("read", Verb::Read),
+    ("write", Verb::Write),
+    ("stat", Verb::Stat),
+    ("list", Verb::List),
+    ("create", Verb::Create),
+    ("remove", Verb::Remove),
+    ("rename", Verb::Rename),
+    ("chmod", Verb::Chmod),
+    ("chown", Verb::Chown),
+];
+
+/// The word of each mode.
+const MODES: [(&str, Mode); 3] = [
+    ("r", Mode::READ),
+    ("w", Mode::WRITE),
+    ("rw", Mode::READ_WRITE),
+];
 
 /// Where the first blank is.
 fn blank_at(bytes: &[u8]) -> Option<usize>
@@ -32,7 +58,7 @@ pub fn word_end(line: &[u8], at: usize) -> usize
 }
 
 /// The decimal number that a word is, if it is at most `max`.
-pub fn number(word: &[u8], max: u64) -> Option<u64>
+pub fn number_in(word: &[u8], max: u64) -> Option<u64>
     ensures value { result ≡ number_in max word.now }
     ensures small { IfSome result (λ n. n ≤ max) }
 {
@@ -41,17 +67,16 @@ pub fn number(word: &[u8], max: u64) -> Option<u64>
 
 /// The number at a place, and the place of the word after it.
 pub fn number_at(line: &[u8], at: usize, max: u64) -> Result<(u64, usize), u32>
-    requires place { at ≤ length line.now + 1 }
-    requires short { length line.now ≤ 65536 }
+    requires { IsPlaceIn line.now at }
     ensures gives { Gives (λ x. (x.0, left_at line.now x.1)) result (next (number_in max) (left_at line.now at)) }
-    ensures place { IfOk result (λ x. x.1 ≤ length line.now + 1) }
+    ensures place { IfOk result (λ x. IsPlaceIn line.now x.1) }
     ensures small { IfOk result (λ x. x.0 ≤ max) }
 {
     if at > line.len() {
         return Err(at as u32);
     }
     let end = word_end(line, at);
-    match number(&line[at..end], max) {
+    match number_in(&line[at..end], max) {
         Some(value) => Ok((value, end + 1)),
         None => Err((at + 1) as u32),
     }
@@ -59,10 +84,9 @@ pub fn number_at(line: &[u8], at: usize, max: u64) -> Result<(u64, usize), u32>
 
 /// The number at a place that fits 32 bits, and the place of the word after it.
 pub fn small_number_at(line: &[u8], at: usize, max: u32) -> Result<(u32, usize), u32>
-    requires place { at ≤ length line.now + 1 }
-    requires short { length line.now ≤ 65536 }
+    requires { IsPlaceIn line.now at }
     ensures gives { Gives (λ x. (x.0, left_at line.now x.1)) result (next (number_in max) (left_at line.now at)) }
-    ensures place { IfOk result (λ x. x.1 ≤ length line.now + 1) }
+    ensures place { IfOk result (λ x. IsPlaceIn line.now x.1) }
     ensures small { IfOk result (λ x. x.0 ≤ max) }
 {
     match number_at(line, at, max as u64) {
@@ -71,96 +95,136 @@ pub fn small_number_at(line: &[u8], at: usize, max: u32) -> Result<(u32, usize),
     }
 }
 
-/// Whether the word is a path: not empty, and of printable bytes.
-#[tactic(auto, unfolding(zn_model::specs::Grammar::path_of))]
+/// Whether a word is a path: not empty, and of printable bytes.
+#[tactic(auto, unfolding(zn_lines::specs::Grammar::path_of))]
 fn is_path(word: &[u8]) -> bool
     ensures { (if result then Some word.now else None) ≡ path_of word.now }
 {
     !word.is_empty() && word.iter().all(|b| 0x21 <= *b && *b <= 0x7E)
 }
 
-/// The path at a place, and the place of the word after it.
-pub fn path_at(line: &[u8], at: usize) -> Result<(&[u8], usize), u32>
-    requires place { at ≤ length line.now + 1 }
-    requires short { length line.now ≤ 65536 }
-    ensures gives { Gives (λ x. (x.0.now, left_at line.now x.1)) result (next path_of (left_at line.now at)) }
-    ensures place { IfOk result (λ x. x.1 ≤ length line.now + 1) }
+/// The path that a word is, which is a text.
+fn path_of(word: &[u8]) -> Option<&str>
+    ensures value { MatchOption result (path_of word.now ≡ None) (λ path. path_of word.now ≡ Some path.now) }
+    ensures short { IfSome result (λ path. length path.now ≤ length word.now) }
 {
-    if at > line.len() {
-        return Err(at as u32);
-    }
-    let end = word_end(line, at);
-    let word = &line[at..end];
     if is_path(word) {
-        Ok((word, end + 1))
-    } else {
-        Err((at + 1) as u32)
-    }
-}
-
-/// The mode that a word names.
-#[tactic(auto, unfolding(zn_model::specs::Grammar::mode_in))]
-fn mode_named(word: &[u8]) -> Option<Mode>
-    ensures { result ≡ mode_in word.now }
-{
-    if word == b"r".as_slice() {
-        Some(Mode::READ)
-    } else if word == b"w".as_slice() {
-        Some(Mode::WRITE)
-    } else if word == b"rw".as_slice() {
-        Some(Mode::READ_WRITE)
+        str::from_utf8(word).ok()
     } else {
         None
     }
 }
 
-/// The mode at a place, and the place of the word after it.
-pub fn mode_at(line: &[u8], at: usize) -> Result<(Mode, usize), u32>
-    requires place { at ≤ length line.now + 1 }
-    requires short { length line.now ≤ 65536 }
-    ensures gives { Gives (λ x. (x.0, left_at line.now x.1)) result (next mode_in (left_at line.now at)) }
-    ensures place { IfOk result (λ x. x.1 ≤ length line.now + 1) }
+/// The path at a place, and the place of the word after it.
+pub fn path_at(line: &[u8], at: usize) -> Result<(&str, usize), u32>
+    requires { IsPlaceIn line.now at }
+    ensures gives { Gives (λ x. (x.0.now, left_at line.now x.1)) result (next path_of (left_at line.now at)) }
+    ensures place { IfOk result (λ x. IsPlaceIn line.now x.1) }
 {
     if at > line.len() {
         return Err(at as u32);
     }
     let end = word_end(line, at);
-    match mode_named(&line[at..end]) {
+    match path_of(&line[at..end]) {
+        Some(path) => Ok((path, end + 1)),
+        None => Err((at + 1) as u32),
+    }
+}
+
+/// The options at a place, if there are some, and the place of the word after them.
+pub fn options_at(line: &[u8], at: usize) -> (Option<&str>, usize)
+    requires { IsPlaceIn line.now at }
+    ensures gives { optional path_of (left_at line.now at) ≡ Ok (option_copied result.0, left_at line.now result.1) }
+    ensures place { IsPlaceIn line.now result.1 }
+    ensures short { IfSome result.0 (λ text. length text.now ≤ length line.now) }
+{
+    if at > line.len() {
+        return (None, at);
+    }
+    let end = word_end(line, at);
+    match path_of(&line[at..end]) {
+        Some(text) => (Some(text), end + 1),
+        None => (None, at),
+    }
+}
+
+/// What stands behind a key, where a word begins with it.
+fn after_key<'a>(word: &'a [u8], key: &[u8]) -> Option<&'a [u8]>
+    ensures value { option_copied result ≡ after_key key.now word.now }
+    ensures short { IfSome result (λ rest. length rest.now ≤ length word.now) }
+{
+    word.strip_prefix(key)
+}
+
+/// The text behind a key.
+pub fn text_after<'a>(word: &'a [u8], key: &[u8]) -> Option<&'a str>
+    ensures value { option_copied result ≡ text_after key.now word.now }
+    ensures short { IfSome result (λ text. length text.now ≤ length word.now) }
+{
+    path_of(after_key(word, key)?)
+}
+
+/// The number of a user or a group behind a key.
+fn user_after(word: &[u8], key: &[u8]) -> Option<u32>
+    ensures { result ≡ user_after key.now word.now }
+{
+    let digits = after_key(word, key)?;
+    let number = number_in(digits, u32::MAX as u64)?;
+    Some(number as u32)
+}
+
+/// The user or the group at a place, if its key is there, and the place of the word after it.
+pub fn user_at(line: &[u8], at: usize, key: &[u8]) -> (Option<u32>, usize)
+    requires { IsPlaceIn line.now at }
+    ensures gives { optional (user_after key.now) (left_at line.now at) ≡ Ok (result.0, left_at line.now result.1) }
+    ensures place { IsPlaceIn line.now result.1 }
+{
+    if at > line.len() {
+        return (None, at);
+    }
+    let end = word_end(line, at);
+    match user_after(&line[at..end], key) {
+        Some(id) => (Some(id), end + 1),
+        None => (None, at),
+    }
+}
+
+/// What a word names in a table of words.
+fn named<T: Copy>(table: &[(&str, T)], word: &[u8]) -> Option<T>
+    ensures { result ≡ named_in (λ e. e.0.now) (λ e. e.1) table.now word.now }
+{
+    let entry = table.iter().find(|entry| word == entry.0.as_bytes())?;
+    Some(entry.1)
+}
+
+/// The mode that a word names.
+#[tactic(auto, unfolding(crate::specs::Tables::named_in, zn_lines::specs::Grammar::mode_in))]
+fn mode_in(word: &[u8]) -> Option<Mode>
+    ensures { result ≡ mode_in word.now }
+{
+    named(&MODES, word)
+}
+
+/// The mode at a place, and the place of the word after it.
+pub fn mode_at(line: &[u8], at: usize) -> Result<(Mode, usize), u32>
+    requires { IsPlaceIn line.now at }
+    ensures gives { Gives (λ x. (x.0, left_at line.now x.1)) result (next mode_in (left_at line.now at)) }
+    ensures place { IfOk result (λ x. IsPlaceIn line.now x.1) }
+{
+    if at > line.len() {
+        return Err(at as u32);
+    }
+    let end = word_end(line, at);
+    match mode_in(&line[at..end]) {
         Some(mode) => Ok((mode, end + 1)),
         None => Err((at + 1) as u32),
     }
 }
 
-/// The verb that a word is.
-#[tactic(auto, unfolding(zn_model::specs::Grammar::verb_of))]
-pub fn verb_named(word: &[u8]) -> Option<Verb>
-    ensures { Reads verb_meant result (verb_of word.now) }
+/// The verb that a word names.
+#[tactic(auto, unfolding(crate::specs::Tables::named_in, zn_lines::specs::Grammar::verb_of))]
+pub fn verb_of(word: &[u8]) -> Option<Verb>
+    ensures { result ≡ verb_of word.now }
 {
-    if word == b"open".as_slice() {
-        Some(Verb::Open)
-    } else if word == b"close".as_slice() {
-        Some(Verb::Close)
-    } else if word == b"size".as_slice() {
-        Some(Verb::Size)
-    } else if word == b"read".as_slice() {
-        Some(Verb::Read)
-    } else if word == b"write".as_slice() {
-        Some(Verb::Write)
-    } else if word == b"stat".as_slice() {
-        Some(Verb::Stat)
-    } else if word == b"list".as_slice() {
-        Some(Verb::Listing)
-    } else if word == b"create".as_slice() {
-        Some(Verb::Create)
-    } else if word == b"remove".as_slice() {
-        Some(Verb::Remove)
-    } else if word == b"rename".as_slice() {
-        Some(Verb::Rename)
-    } else if word == b"chmod".as_slice() {
-        Some(Verb::Chmod)
-    } else if word == b"chown".as_slice() {
-        Some(Verb::Chown)
-    } else {
-        None
-    }
+    named(&VERBS, word)
 }

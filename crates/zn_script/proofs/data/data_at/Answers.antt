@@ -1,5 +1,5 @@
 use Rattle.std.proofs.Common.{arith}
-use Rattle.zn_model.specs.Grammar.{data_of}
+use Rattle.zn_lines.specs.Grammar.{data_of}
 use Rattle.zn_script.proofs.DataParts.{has_runs}
 use Rattle.zn_script.proofs.Splitting.{word_missing, word_ok, word_bad}
 use Rattle.zn_script.proofs.data.data_at.Goals as goal

@@ -3,7 +3,7 @@ use Rattle.std.proofs.lemmas.Iterator.{YieldsList-from_slice}
 use Rattle.std.proofs.lemmas.Iterator.Search.{all_from_yields_List}
 use Rattle.std.specs.List.{list_all}
 use borrow.Author.Tests.{tests}
-use Rattle.zn_model.specs.Grammar.{is_printable, path_of}
+use Rattle.zn_lines.specs.Grammar.{is_printable, path_of}
 use Rattle.zn_script.proofs.words.is_path.Goals as goal
 
 tested : (word : List ℕ) → eqb (length word) 0 ≡ false → path_of word ≡ cond (list_all is_printable word) (Some word) None

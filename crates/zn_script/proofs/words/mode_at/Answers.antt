@@ -1,5 +1,5 @@
 use Rattle.std.proofs.Common.{arith, sym}
-use Rattle.zn_model.specs.Grammar.{mode_in}
+use Rattle.zn_lines.specs.Grammar.{mode_in}
 use Rattle.zn_script.proofs.Splitting.{word_missing, word_ok, word_bad}
 use Rattle.zn_script.proofs.words.mode_at.Goals as goal
 

@@ -1,7 +1,7 @@
 use Rattle.std.proofs.Common.{ap, ◌∙◌, sym}
 use Rattle.std.proofs.lemmas.List.{take_rest}
 use Rattle.std.specs.List.{position}
-use Rattle.zn_model.specs.Words.{is_blank}
+use Rattle.zn_lines.specs.Words.{is_blank}
 use Rattle.zn_script.proofs.Splitting.{word_found, word_last}
 use Rattle.zn_script.proofs.words.word_end.Goals as goal
 

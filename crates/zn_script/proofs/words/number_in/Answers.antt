@@ -1,7 +1,7 @@
 use Rattle.std.proofs.Common.{◌≡◌, ◌<◌, ◌≤◌, ◌^◌, ℕ, List, Option, Some, None, IfSome, sym, arith}
 use Rattle.zn_base.specs.Decimals.{number_in}
-use Rattle.zn_model.proofs.NumberWords.{decimal-number_in}
-use Rattle.zn_script.proofs.words.number.Goals as goal
+use Rattle.zn_base.proofs.DecimalLaws.{decimal-number_in}
+use Rattle.zn_script.proofs.words.number_in.Goals as goal
 
 within : (max : ℕ) (word : List ℕ) (o : Option ℕ) → max < 2 ^ 64 → o ≡ number_in max word → IfSome o (λ n. n ≤ max)
 within max word None fits is = tt
