@@ -1,13 +1,14 @@
 -- A run that a line has ended ends so whatever follows.
 use Rattle.std.proofs.Common.{◌≡◌, ℕ, ◌+◌, Bool, true, false, cond, ltb, lt-ltb, ltb-true, List, [], ◌∷◌, ◌++◌, length, length-append, Option, Some, None, Result, Ok, Err, refl, ap, sym, ◌∙◌, arith}
 use Rattle.std.specs.List.{onto_first, slice_split}
-use Rattle.zn_model.specs.declared.runs.Tail.{Tail}
-use Rattle.zn_model.specs.declared.runs.Tail.TheVariants.{More}
-use Rattle.zn_model.specs.declared.runs.Ending.TheVariants.{LineTooLong, Unread}
-use Rattle.zn_model.specs.Lines.{Line}
-use Rattle.zn_model.specs.Grammar.{reading_of}
-use Rattle.zn_model.specs.Session.{Table, line_step}
-use Rattle.zn_model.specs.Transcript.{Transcript, stop, with_text, line_then, transcript_from, pieces, transcript_at, is_newline, IsDecided}
+use Rattle.zn_lines.specs.declared.runs.Tail.{Tail}
+use Rattle.zn_lines.specs.declared.runs.Tail.TheVariants.{More}
+use Rattle.zn_lines.specs.declared.runs.Ending.TheVariants.{LineTooLong, Unread}
+use Rattle.zn_lines.specs.Lines.{Line}
+use Rattle.zn_lines.specs.Grammar.{reading_of}
+use Rattle.zn_lines.specs.Table.{Table}
+use Rattle.zn_lines.specs.Session.{line_step}
+use Rattle.zn_lines.specs.Transcript.{Transcript, stop, with_text, first_given, more_given, line_then, transcript_from, pieces, transcript_at, is_newline, IsDecided}
 use Rattle.zn_run.proofs.TranscriptLaws.{some_piece}
 
 -- the last piece goes on, and others follow
@@ -37,38 +38,38 @@ unfolding extended
 some_extended piece [] first others = (piece ++ first, others, refl)
 some_extended piece (q ∷ more) first others = (piece, extended (q ∷ more) first others, refl)
 
-last_stays : (tail : Tail) (table : Table) (n : ℕ) (piece first : List ℕ) (others : List (List ℕ)) (long : Bool) → ltb 65536 (length piece) ≡ long
-    → IsDecided (cond long (stop table (LineTooLong n)) (stop table Unread)).ending → transcript_from tail table n ((piece ++ first) ∷ others) ≡ cond long (stop table (LineTooLong n)) (stop table Unread)
+last_stays : (givens : List (List ℕ)) (tail : Tail) (table : Table) (n : ℕ) (piece first : List ℕ) (others : List (List ℕ)) (long : Bool) → ltb 65536 (length piece) ≡ long
+    → IsDecided (cond long (stop table (LineTooLong n)) (stop table Unread)).ending → transcript_from givens tail table n ((piece ++ first) ∷ others) ≡ cond long (stop table (LineTooLong n)) (stop table Unread)
 unfolding transcript_from
-last_stays tail table n piece first [] true is decided =
+last_stays givens tail table n piece first [] true is decided =
     let far : ltb 65536 (length (piece ++ first)) ≡ true = lt-ltb _ _ (omega (arith, ltb-true _ _ is, length-append piece first)) in rw far refl
-last_stays tail table n piece first (q ∷ others) true is decided =
+last_stays givens tail table n piece first (q ∷ others) true is decided =
     let far : ltb 65536 (length (piece ++ first)) ≡ true = lt-ltb _ _ (omega (arith, ltb-true _ _ is, length-append piece first)) in rw far refl
-last_stays tail table n piece first others false is decided = absurd decided
+last_stays givens tail table n piece first others false is decided = absurd decided
 
-line_stays : (table : Table) (n : ℕ) (reading : Result (Option Line) ℕ) (long : Bool) (f g : Table → Transcript) → ((x : Table) → IsDecided (g x).ending → f x ≡ g x)
-    → IsDecided (cond long (stop table (LineTooLong n)) (line_then reading table n g)).ending
-    → cond long (stop table (LineTooLong n)) (line_then reading table n f) ≡ cond long (stop table (LineTooLong n)) (line_then reading table n g)
-line_stays table n reading true f g same decided = refl
-line_stays table n (Err column) false f g same decided = refl
-line_stays table n (Ok None) false f g same decided = same table decided
-line_stays table n (Ok (Some line)) false f g same decided = ap (with_text (line_step table line).text) (same (line_step table line).table decided)
+line_stays : (given : List ℕ) (table : Table) (n : ℕ) (reading : Result (Option Line) ℕ) (long : Bool) (f g : Table → Transcript) → ((x : Table) → IsDecided (g x).ending → f x ≡ g x)
+    → IsDecided (cond long (stop table (LineTooLong n)) (line_then given reading table n g)).ending
+    → cond long (stop table (LineTooLong n)) (line_then given reading table n f) ≡ cond long (stop table (LineTooLong n)) (line_then given reading table n g)
+line_stays given table n reading true f g same decided = refl
+line_stays given table n (Err column) false f g same decided = refl
+line_stays given table n (Ok None) false f g same decided = same table decided
+line_stays given table n (Ok (Some line)) false f g same decided = ap (with_text (line_step given table line).text) (same (line_step given table line).table decided)
 
-pieces_stay : (parts : List (List ℕ)) (tail : Tail) (table : Table) (n : ℕ) (first : List ℕ) (others : List (List ℕ)) → IsDecided (transcript_from More table n parts).ending
-    → transcript_from tail table n (extended parts first others) ≡ transcript_from More table n parts
+pieces_stay : (givens : List (List ℕ)) (parts : List (List ℕ)) (tail : Tail) (table : Table) (n : ℕ) (first : List ℕ) (others : List (List ℕ)) → IsDecided (transcript_from givens More table n parts).ending
+    → transcript_from givens tail table n (extended parts first others) ≡ transcript_from givens More table n parts
 unfolding transcript_from extended
-pieces_stay [] tail table n first others decided = absurd decided
-pieces_stay (piece ∷ []) tail table n first others decided = last_stays tail table n piece first others (ltb 65536 (length piece)) refl decided
-pieces_stay (line ∷ piece ∷ parts) tail table n first others decided =
+pieces_stay givens [] tail table n first others decided = absurd decided
+pieces_stay givens (piece ∷ []) tail table n first others decided = last_stays givens tail table n piece first others (ltb 65536 (length piece)) refl decided
+pieces_stay givens (line ∷ piece ∷ parts) tail table n first others decided =
     let s = some_extended piece parts first others in
-    ap (λ ps. transcript_from tail table n (line ∷ ps)) s.2
-    ∙ line_stays table n (reading_of line) (ltb 65536 (length line))
-    (λ x. transcript_from tail x (n + 1) (s.0 ∷ s.1)) (λ x. transcript_from More x (n + 1) (piece ∷ parts))
-    (λ x d. ap (transcript_from tail x (n + 1)) (sym s.2) ∙ pieces_stay (piece ∷ parts) tail x (n + 1) first others d) decided
+    ap (λ ps. transcript_from givens tail table n (line ∷ ps)) s.2
+    ∙ line_stays (first_given givens) table n (reading_of line) (ltb 65536 (length line))
+    (λ x. transcript_from (more_given givens) tail x (n + 1) (s.0 ∷ s.1)) (λ x. transcript_from (more_given givens) More x (n + 1) (piece ∷ parts))
+    (λ x d. ap (transcript_from (more_given givens) tail x (n + 1)) (sym s.2) ∙ pieces_stay (more_given givens) (piece ∷ parts) tail x (n + 1) first others d) decided
 
 -- once a line has ended the run, no bytes behind it matter
-pub decided_stays : (tail : Tail) (table : Table) (n : ℕ) (bytes more : List ℕ) → IsDecided (transcript_at More table n bytes).ending → transcript_at tail table n (bytes ++ more) ≡ transcript_at More table n bytes
+pub decided_stays : (givens : List (List ℕ)) (tail : Tail) (table : Table) (n : ℕ) (bytes more : List ℕ) → IsDecided (transcript_at givens More table n bytes).ending → transcript_at givens tail table n (bytes ++ more) ≡ transcript_at givens More table n bytes
 unfolding pieces
-decided_stays tail table n bytes more decided =
+decided_stays givens tail table n bytes more decided =
     let s = some_piece more in
-    ap (transcript_from tail table n) (split_extended bytes more s.0 s.1 s.2) ∙ pieces_stay (slice_split is_newline bytes) tail table n s.0 s.1 decided
+    ap (transcript_from givens tail table n) (split_extended bytes more s.0 s.1 s.2) ∙ pieces_stay givens (slice_split is_newline bytes) tail table n s.0 s.1 decided

@@ -1,100 +1,115 @@
 -- What no newline ends.
-use Rattle.std.proofs.Common.{◌≡◌, ℕ, ◌<◌, ◌≤◌, Bool, List, [], ◌∷◌, ◌++◌, length, Option, Some, None, Result, Ok, Err, refl, ap, sym, ◌∙◌, arith}
+use Rattle.std.proofs.Common.{◌≡◌, ℕ, ◌<◌, ◌≤◌, false, List, [], ◌∷◌, length, Option, Some, None, Result, Ok, Err, refl, ap, sym, subst, ◌∙◌, arith}
 use Rattle.std.proofs.lemmas.List.{append-nil, nil_from_length}
-use Rattle.zn_base.specs.Told.{told_and}
-use Rattle.zn_base.proofs.ToldLaws.{told_and-nil}
-use Rattle.zn_model.specs.declared.runs.Tail.{Tail}
-use Rattle.zn_model.specs.declared.runs.Tail.TheVariants.{End}
-use Rattle.zn_model.specs.declared.runs.Ending.{Ending}
-use Rattle.zn_model.specs.declared.runs.Ending.TheVariants.{Finished, BadLine, LineTooLong}
-use Rattle.zn_model.specs.Lines.{Line}
-use Rattle.zn_model.specs.Grammar.{reading_of}
-use Rattle.zn_model.specs.Session.{Table, line_step}
-use Rattle.zn_model.specs.Transcript.{Transcript, stop, line_then, last_piece, transcript_at, OneLine}
+use Rattle.zn_base.specs.States.{SinkState}
+use Rattle.zn_lines.specs.declared.runs.Tail.{Tail}
+use Rattle.zn_lines.specs.declared.runs.Tail.TheVariants.{End}
+use Rattle.zn_lines.specs.declared.runs.Ending.{Ending}
+use Rattle.zn_lines.specs.declared.runs.Ending.TheVariants.{Finished, BadLine as is_bad, LineTooLong}
+use Rattle.zn_lines.specs.Lines.{Line}
+use Rattle.zn_lines.specs.Grammar.{reading_of}
+use Rattle.zn_lines.specs.Table.{Table}
+use Rattle.zn_lines.specs.Session.{line_step}
+use Rattle.zn_lines.specs.Transcript.{Transcript, stop, first_given, line_then, last_piece, transcript_at, OneLine}
 use Rattle.zn_run.specs.Endings.{last_line_now, out_of_memory, host_fault}
-use Rattle.zn_run.specs.Headline.{Closed, RanWhole, Ran}
-use Rattle.zn_run.specs.Progress.{IsNext}
-use Rattle.zn_run.specs.State.{State, state_of}
+use Rattle.zn_run.specs.Headline.{Closed, RanGiven, Ran}
+use Rattle.zn_run.specs.Progress.{IsNext, StoppedBy}
+use Rattle.zn_run.specs.States.{MachineState, State, state_of, Added}
 use Rattle.zn_run.specs.Statuses.{EndsBy}
-use Rattle.zn_run.specs.Steps.{DoneBy, LineDone, LineBad, LineBroken, LineCut, LineStarved}
+use Rattle.zn_run.specs.Steps.{DoneBy, Stepped}
+use Rattle.zn_run.specs.declared.machine.Step.{Step}
+use Rattle.zn_run.specs.declared.machine.Step.TheVariants.{Done as done_step, BadLine, Broken, SinkFault as cut_step, Memory as starved_step}
 use Rattle.zn_run.specs.declared.status.Status.{Status}
 use Rattle.zn_run.specs.declared.status.Status.TheVariants.{Done, Script, HostFault, WriteFault, Memory}
 use Rattle.zn_run.proofs.TranscriptLaws.{line_long, last_is}
-use Rattle.zn_run.proofs.LineLaws.{reached_here, first_line_last}
-use Rattle.zn_run.proofs.RanLaws.{whole_along, ran_ended, ran_starved, ran_broken, ran_cut}
+use Rattle.zn_run.proofs.LineLaws.{added_none, reached_here, first_line_last}
+use Rattle.zn_run.proofs.RanLaws.{whole_along, given_of, closes, comes_ended, ran_done, ran_starved, ran_broken, ran_cut}
 
 -- ---- the transcript
 
-pub long_is : (tail : Tail) (table : Table) (n : ℕ) (piece : List ℕ) → OneLine piece → 65536 < length piece → transcript_at tail table n piece ≡ stop table (LineTooLong n)
-long_is tail table n piece one long = ap (transcript_at tail table n) (sym (append-nil piece)) ∙ line_long tail table n piece [] one long
+pub long_is : (givens : List (List ℕ)) (tail : Tail) (table : Table) (n : ℕ) (piece : List ℕ) → OneLine piece → 65536 < length piece → transcript_at givens tail table n piece ≡ stop table (LineTooLong n)
+long_is givens tail table n piece one long = ap (transcript_at givens tail table n) (sym (append-nil piece)) ∙ line_long givens tail table n piece [] one long
 
-pub tail_is : (tail kind : Tail) (table : Table) (n : ℕ) (piece : List ℕ) → OneLine piece → length piece ≤ 65536 → tail ≡ kind → transcript_at tail table n piece ≡ last_piece kind table n piece
-tail_is tail kind table n piece one fits is = last_is tail table n piece one fits ∙ ap (λ k. last_piece k table n piece) is
+pub tail_is : (givens : List (List ℕ)) (tail kind : Tail) (table : Table) (n : ℕ) (piece : List ℕ) → OneLine piece → length piece ≤ 65536 → tail ≡ kind → transcript_at givens tail table n piece ≡ last_piece (first_given givens) kind table n piece
+tail_is givens tail kind table n piece one fits is = last_is givens tail table n piece one fits ∙ ap (λ k. last_piece (first_given givens) k table n piece) is
 
-none_is : (table : Table) (n : ℕ) (piece : List ℕ) → length piece ≡ 0 → last_piece End table n piece ≡ stop table Finished
-none_is table n piece empty = ap (last_piece End table n) (nil_from_length piece empty)
+none_is : (given : List ℕ) (table : Table) (n : ℕ) (piece : List ℕ) → length piece ≡ 0 → last_piece given End table n piece ≡ stop table Finished
+none_is given table n piece empty = ap (last_piece given End table n) (nil_from_length piece empty)
 
-some_is : (table : Table) (n : ℕ) (piece : List ℕ) → 0 < length piece → last_piece End table n piece ≡ line_then (reading_of piece) table n (λ after. stop after Finished)
-some_is table n [] some = absurd (omega arith)
-some_is table n (b ∷ bytes) some = refl
+some_is : (given : List ℕ) (table : Table) (n : ℕ) (piece : List ℕ) → 0 < length piece → last_piece given End table n piece ≡ line_then given (reading_of piece) table n (λ after. stop after Finished)
+some_is given table n [] some = absurd (omega arith)
+some_is given table n (b ∷ bytes) some = refl
 
 -- a last line, by how it is read
-read_is : (table : Table) (n : ℕ) (line : List ℕ) (reading : Result (Option Line) ℕ) → OneLine line → 0 < length line → length line ≤ 65536 → reading_of line ≡ reading → transcript_at End table n line ≡ line_then reading table n (λ after. stop after Finished)
-read_is table n line reading one some fits reads =
-    last_is End table n line one fits ∙ some_is table n line some ∙ ap (λ r. line_then r table n (λ after. stop after Finished)) reads
+read_is : (givens : List (List ℕ)) (table : Table) (n : ℕ) (line : List ℕ) (reading : Result (Option Line) ℕ) → OneLine line → 0 < length line → length line ≤ 65536 → reading_of line ≡ reading → transcript_at givens End table n line ≡ line_then (first_given givens) reading table n (λ after. stop after Finished)
+read_is givens table n line reading one some fits reads =
+    last_is givens End table n line one fits ∙ some_is (first_given givens) table n line some ∙ ap (λ r. line_then (first_given givens) r table n (λ after. stop after Finished)) reads
 
 next_last : (table : Table) (n : ℕ) (line : List ℕ) (l : Line) → OneLine line → 0 < length line → length line ≤ 65536 → reading_of line ≡ Ok (Some l) → IsNext End table n line l
 next_last table n line l one some fits reads = record {
   reads = ap reading_of (first_line_last line one) ∙ reads;
-  due = ([], ap (λ (t : Transcript). t.text) (read_is table n line (Ok (Some l)) one some fits reads));
+  due = λ given givens. ([], ap (λ (t : Transcript). t.text) (read_is (given ∷ givens) table n line (Ok (Some l)) one some fits reads));
 }
 
 -- ---- a last line
 
-done_last : (reading : Result (Option Line) ℕ) (old new : State) (n : ℕ) (line : List ℕ) → OneLine line → 0 < length line → length line ≤ 65536 → reading_of line ≡ reading → DoneBy reading old new → RanWhole Done End (transcript_at End old.table n line) old new
+done_last : (reading : Result (Option Line) ℕ) (old new : State) (n : ℕ) (line : List ℕ) → OneLine line → 0 < length line → length line ≤ 65536 → reading_of line ≡ reading → DoneBy reading old new → RanGiven Done End n line [] old new
 done_last (Ok None) old new n line one some fits reads d =
-    whole_along (read_is old.table n line (Ok None) one some fits reads)
-    (record { ends = (refl, refl); table = d.table; told = d.told ∙ sym (told_and-nil old.told); counts = d.counts })
+    let S : SinkState → Type 0 = λ s. Added [] old.sink s in
+    given_of []
+    (whole_along (read_is [] old.machine.table n line (Ok None) one some fits reads)
+    (record { ends = (refl, refl); last = refl; table = d.table; breaks = d.breaks; replies = subst S (sym d.sink) (added_none old.sink) }))
 done_last (Ok (Some l)) old new n line one some fits reads d =
-    let reply = (line_step old.table l).text in
-    whole_along (read_is old.table n line (Ok (Some l)) one some fits reads)
-    (record { ends = (refl, refl); table = d.table; told = d.told ∙ ap (told_and old.told) (sym (append-nil (reply ++ []) ∙ append-nil reply)); counts = d.counts })
+    let reply = (line_step d.given old.machine.table l).text in
+    let T : List ℕ → Type 0 = λ text. Added text old.sink new.sink in
+    given_of (d.given ∷ [])
+    (whole_along (read_is (d.given ∷ []) old.machine.table n line (Ok (Some l)) one some fits reads)
+    (record { ends = (refl, refl); last = refl; table = d.table; breaks = d.breaks; replies = subst T (sym (append-nil reply)) d.reply }))
 done_last (Err column) old new n line one some fits reads d = absurd d
 
-pub last_done : {old new : State} {line : List ℕ} (n : ℕ) → OneLine line → 0 < length line → length line ≤ 65536 → LineDone (reading_of line) old new → Ran Done End n line old new
-last_done {old = old} {new = new} {line = line} n one some fits d = record { means = done_last (reading_of line) old new n line one some fits refl d.means }
+pub last_done : {old new : State} {line : List ℕ} (n : ℕ) → OneLine line → 0 < length line → length line ≤ 65536 → Stepped done_step (reading_of line) old new → Ran Done End n line old new
+last_done {old = old} {new = new} {line = line} n one some fits s =
+    ran_done (done_last (reading_of line) old new n line one some fits refl s.means.means)
 
-pub last_bad : {result : Status} {old : State} {line : List ℕ} {table : Table} {over : Bool} {breaks faults faults' column : ℕ} {told told' : Option (List ℕ)} (n : ℕ) → OneLine line → 0 < length line → length line ≤ 65536 → LineBad column (reading_of line) old (state_of table over breaks told faults)
-    → Closed result Script (last_line_now (BadLine n column)) told told' faults faults' → Ran result End n line old (state_of table over breaks told' faults')
-last_bad {old = old} {line = line} {column = column} n one some fits b c =
-    ran_ended (BadLine n column) (reached_here old.table n line) tt (read_is old.table n line (Err column) one some fits b.reads)
-    b.unmoved.table (b.unmoved.told ∙ sym (told_and-nil old.told)) b.unmoved.counts.breaks b.unmoved.counts.faults c
+-- a last line of the grammar that was not answered
+abbrev stopped_last : {step : Step} {old new : State} {line : List ℕ} (n : ℕ) → old.machine.over ≡ false → OneLine line → 0 < length line → length line ≤ 65536 → Stepped step (reading_of line) old new → (l : Line) → reading_of line ≡ Ok (Some l)
+    → StoppedBy step End n line old new
+stopped_last {step = step} {old = old} {new = new} {line = line} n goes_on one some fits s l reads =
+    let S : List ℕ → Type 0 = λ first. Stepped step (reading_of first) old new in
+    record {
+      reached = reached_here old n line goes_on;
+      line = l;
+      next = next_last old.machine.table n line l one some fits reads;
+      stepped = subst S (sym (first_line_last line one)) s;
+    }
 
-pub last_broken : {result : Status} {old : State} {line : List ℕ} {table : Table} {over : Bool} {breaks faults faults' : ℕ} {told told' : Option (List ℕ)} (n : ℕ) → OneLine line → 0 < length line → length line ≤ 65536 → LineBroken (reading_of line) old (state_of table over breaks told faults)
-    → Closed result HostFault (host_fault n) told told' faults faults' → Ran result End n line old (state_of table over breaks told' faults')
-last_broken {old = old} {line = line} n one some fits b c =
-    ran_broken (reached_here old.table n line) b.line (next_last old.table n line b.line one some fits b.reads) (b.told ∙ sym (told_and-nil old.told)) b.faults b.risen c
+pub last_bad : {result : Status} {old : State} {line : List ℕ} {machine : MachineState} {sink sink' : SinkState} {column : ℕ} (n : ℕ) → old.machine.over ≡ false → OneLine line → 0 < length line → length line ≤ 65536
+    → Stepped (BadLine column) (reading_of line) old (state_of machine sink) → Closed result Script (last_line_now (is_bad n column)) sink sink' → Ran result End n line old (state_of machine sink')
+last_bad {old = old} {line = line} {column = column} n goes_on one some fits s c =
+    closes (comes_ended Script End (is_bad n column) (reached_here old n line goes_on) tt (λ givens. read_is givens old.machine.table n line (Err column) one some fits s.means.reads) s.means.unmoved) c
 
-pub last_cut : {old new : State} {line : List ℕ} (n : ℕ) → OneLine line → 0 < length line → length line ≤ 65536 → LineCut (reading_of line) old new → Ran WriteFault End n line old new
-last_cut {old = old} {line = line} n one some fits b =
-    ran_cut (reached_here old.table n line) b.line b.toward.0 (next_last old.table n line b.line one some fits b.reads) b.toward.1 b.toward.2 b.breaks b.risen
+pub last_broken : {result : Status} {old : State} {line : List ℕ} {machine : MachineState} {sink sink' : SinkState} (n : ℕ) → old.machine.over ≡ false → OneLine line → 0 < length line → length line ≤ 65536
+    → Stepped Broken (reading_of line) old (state_of machine sink) → Closed result HostFault (host_fault n) sink sink' → Ran result End n line old (state_of machine sink')
+last_broken n goes_on one some fits s c = ran_broken (record { stopped = stopped_last n goes_on one some fits s s.means.line s.means.reads; numbered = refl }) c
 
-pub last_starved : {result : Status} {old : State} {reading : Result (Option Line) ℕ} {table : Table} {over : Bool} {breaks faults faults' : ℕ} {told told' : Option (List ℕ)} (n : ℕ) (line : List ℕ) → LineStarved reading old (state_of table over breaks told faults)
-    → Closed result Memory out_of_memory told told' faults faults' → Ran result End n line old (state_of table over breaks told' faults')
-last_starved {old = old} n line b c =
-    ran_starved (reached_here old.table n line) (b.told ∙ sym (told_and-nil old.told)) b.counts.breaks b.counts.faults c
+pub last_cut : {old new : State} {line : List ℕ} (n : ℕ) → old.machine.over ≡ false → OneLine line → 0 < length line → length line ≤ 65536 → Stepped cut_step (reading_of line) old new → Ran WriteFault End n line old new
+last_cut n goes_on one some fits s = ran_cut (stopped_last n goes_on one some fits s s.means.line s.means.reads)
+
+pub last_starved : {result : Status} {old : State} {line : List ℕ} {machine : MachineState} {sink sink' : SinkState} (n : ℕ) → old.machine.over ≡ false → OneLine line → 0 < length line → length line ≤ 65536
+    → Stepped starved_step (reading_of line) old (state_of machine sink) → Closed result Memory out_of_memory sink sink' → Ran result End n line old (state_of machine sink')
+last_starved n goes_on one some fits s c = ran_starved (stopped_last n goes_on one some fits s s.means.line s.means.reads) c
 
 -- ---- no line
 
 -- nothing is left
 pub none_left : {tail : Tail} (old : State) (n : ℕ) (rest : List ℕ) → OneLine rest → length rest ≤ 65536 → tail ≡ End → length rest ≡ 0 → Ran Done tail n rest old old
-none_left {tail = tail} old n rest one fits is empty = record {
-  means = whole_along (tail_is tail End old.table n rest one fits is ∙ none_is old.table n rest empty)
-      (record { ends = (is, refl); table = refl; told = sym (told_and-nil old.told); counts = record { breaks = refl; faults = refl } });
-}
+none_left {tail = tail} old n rest one fits is empty =
+    ran_done (given_of []
+    (whole_along (tail_is [] tail End old.machine.table n rest one fits is ∙ none_is [] old.machine.table n rest empty)
+    (record { ends = (is, refl); last = refl; table = refl; breaks = refl; replies = added_none old.sink })))
 
 -- the run ends before the rest
-pub ended_here : {result status : Status} {tail : Tail} {table : Table} {over : Bool} {breaks faults faults' : ℕ} {told told' : Option (List ℕ)} (n : ℕ) (rest : List ℕ) (by : Ending) → EndsBy status tail by → transcript_at tail table n rest ≡ stop table by
-    → Closed result status (last_line_now by) told told' faults faults' → Ran result tail n rest (state_of table over breaks told faults) (state_of table over breaks told' faults')
-ended_here {table = table} {told = told} n rest by ends is c =
-    ran_ended by (reached_here table n rest) ends is refl (sym (told_and-nil told)) refl refl c
+pub ended_here : {result status : Status} {tail : Tail} {machine : MachineState} {sink sink' : SinkState} (n : ℕ) (rest : List ℕ) (by : Ending) → machine.over ≡ false → EndsBy status tail by
+    → ((givens : List (List ℕ)) → transcript_at givens tail machine.table n rest ≡ stop machine.table by) → Closed result status (last_line_now by) sink sink' → Ran result tail n rest (state_of machine sink) (state_of machine sink')
+ended_here {status = status} {tail = tail} {machine = machine} {sink = sink} n rest by goes_on ends is c =
+    closes (comes_ended status tail by (reached_here (state_of machine sink) n rest goes_on) ends is (record { table = refl; breaks = refl; sink = refl })) c

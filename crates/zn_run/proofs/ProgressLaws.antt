@@ -1,19 +1,22 @@
 -- How the lines that a newline ends go on, and how they end a run.
-use Rattle.std.proofs.Common.{◌≡◌, ℕ, ◌+◌, ◌-◌, ◌<◌, ◌≤◌, List, [], ◌∷◌, ◌++◌, length, take, drop, Option, Some, None, Result, Ok, Err, refl, ap, sym, subst, ◌∙◌, append_assoc, length-append, arith}
+use Rattle.std.proofs.Common.{◌≡◌, ℕ, ◌+◌, ◌-◌, ◌<◌, ◌≤◌, false, List, [], ◌∷◌, ◌++◌, length, take, drop, Option, Some, None, Result, Ok, Err, refl, ap, sym, subst, ◌∙◌, append_assoc, length-append, arith}
 use Rattle.std.proofs.lemmas.List.{take_at, take-append-drop, take_rest, drop-drop, length-take-le, length-drop}
 use Rattle.std.proofs.Math.Seq.{take-add}
-use Rattle.zn_base.specs.Told.{Grew}
-use Rattle.zn_base.proofs.ToldLaws.{told_and-nil, grew_then}
-use Rattle.zn_model.specs.declared.runs.Ending.TheVariants.{BadLine, LineTooLong}
-use Rattle.zn_model.specs.Lines.{Line}
-use Rattle.zn_model.specs.Grammar.{reading_of}
-use Rattle.zn_model.specs.Session.{Table, line_step}
-use Rattle.zn_model.specs.Transcript.{transcript_at, OneLine, FirstLineEnds}
-use Rattle.zn_run.specs.State.{State, SameCounts, HasRisen}
-use Rattle.zn_run.specs.Steps.{DoneBy, LineDone, LineBad, LineBroken, LineCut, LineStarved}
-use Rattle.zn_run.specs.Progress.{WholeLines, Reached, Progress, IsEnded, IsBroken, IsCut, IsStarved}
+use Rattle.zn_base.specs.States.{SinkState}
+use Rattle.zn_lines.specs.declared.runs.Tail.{Tail}
+use Rattle.zn_lines.specs.declared.runs.Ending.TheVariants.{BadLine as is_bad, LineTooLong}
+use Rattle.zn_lines.specs.Lines.{Line}
+use Rattle.zn_lines.specs.Grammar.{reading_of}
+use Rattle.zn_lines.specs.Table.{Table}
+use Rattle.zn_lines.specs.Session.{line_step}
+use Rattle.zn_lines.specs.Transcript.{transcript_at, OneLine, FirstLineEnds}
+use Rattle.zn_run.specs.States.{State, Added}
+use Rattle.zn_run.specs.Steps.{DoneBy, Stepped}
+use Rattle.zn_run.specs.Progress.{WholeLines, CarriedOut, Reached, StoppedBy, IsEnded, IsBroken, first_line}
+use Rattle.zn_run.specs.declared.machine.Step.{Step}
+use Rattle.zn_run.specs.declared.machine.Step.TheVariants.{Done, BadLine, Broken}
 use Rattle.zn_run.proofs.TranscriptLaws.{line_bad, line_long}
-use Rattle.zn_run.proofs.LineLaws.{lines_then, lines_read, lines_passed, next_ended}
+use Rattle.zn_run.proofs.LineLaws.{lines_read, lines_passed, added_none, carried_then, next_ended, first_line_ended}
 
 -- ---- the line at a place
 
@@ -47,101 +50,79 @@ line_at script at len inside first =
 
 -- ---- how far the lines are carried out
 
-pub counts_then : {old mid new : State} → SameCounts old mid → SameCounts mid new → SameCounts old new
-counts_then p q = record { breaks = q.breaks ∙ p.breaks; faults = q.faults ∙ p.faults }
-
-abbrev pub standing : {old new : State} {first : ℕ} {script : List ℕ} {at number : ℕ} → Progress old new first script at number → Reached old.table first script
-standing {new = new} {script = script} {at = at} {number = number} p = record {
+abbrev pub standing : {old mid : State} {first number : ℕ} (script : List ℕ) (at : ℕ) → CarriedOut old mid first (take at script) number → Reached old first script
+standing {mid = mid} {number = number} script at lines = record {
   before = take at script;
-  out = p.out;
-  table = new.table;
+  state = mid;
   number = number;
   rest = drop at script;
   cut = sym (take-append-drop at script);
-  lines = p.lines;
+  lines = lines;
 }
 
--- what a line that is done adds
-record DoneLine (mid new : State) (n : ℕ) (line : List ℕ) : Type 0 where
-  pub out : List ℕ
-  pub lines : WholeLines mid.table n (line ++ 10 ∷ []) out new.table (n + 1)
-  pub told : Grew mid.told new.told out
-  pub counts : SameCounts mid new
-
-done_line : (reading : Result (Option Line) ℕ) (mid new : State) (n : ℕ) (line : List ℕ) → OneLine line → length line ≤ 65536 → reading_of line ≡ reading → DoneBy reading mid new → DoneLine mid new n line
-done_line (Ok None) mid new n line one fits reads d = record {
+-- a line that is done
+done_line : (reading : Result (Option Line) ℕ) (mid new : State) (n : ℕ) (line : List ℕ) → OneLine line → length line ≤ 65536 → reading_of line ≡ reading → DoneBy reading mid new
+    → new.machine.over ≡ false → new.machine.steps ≡ mid.machine.steps + 1 → new.machine.takes_memory ≡ mid.machine.takes_memory → CarriedOut mid new n (line ++ 10 ∷ []) (n + 1)
+done_line (Ok None) mid new n line one fits reads d goes_on counted memory = record {
   out = [];
-  lines = let W : Table → Type 0 = λ t. WholeLines mid.table n (line ++ 10 ∷ []) [] t (n + 1) in subst W (sym d.table) (lines_passed mid.table n line one fits reads);
-  told = d.told ∙ sym (told_and-nil mid.told);
-  counts = d.counts;
+  lines = let W : Table → Type 0 = λ t. WholeLines mid.machine.table n (line ++ 10 ∷ []) [] t (n + 1) in subst W (sym d.table) (lines_passed mid.machine.table n line one fits reads);
+  replies = let S : SinkState → Type 0 = λ s. Added [] mid.sink s in subst S (sym d.sink) (added_none mid.sink);
+  breaks = d.breaks;
+  steps = omega (arith, counted);
+  memory = memory;
+  goes_on = goes_on;
 }
-done_line (Ok (Some l)) mid new n line one fits reads d = record {
-  out = (line_step mid.table l).text;
-  lines = let W : Table → Type 0 = λ t. WholeLines mid.table n (line ++ 10 ∷ []) (line_step mid.table l).text t (n + 1) in subst W (sym d.table) (lines_read mid.table n l line one fits reads);
-  told = d.told;
-  counts = d.counts;
+done_line (Ok (Some l)) mid new n line one fits reads d goes_on counted memory = record {
+  out = (line_step d.given mid.machine.table l).text;
+  lines = let W : Table → Type 0 = λ t. WholeLines mid.machine.table n (line ++ 10 ∷ []) (line_step d.given mid.machine.table l).text t (n + 1) in subst W (sym d.table) (lines_read d.given mid.machine.table n l line one fits reads);
+  replies = d.reply;
+  breaks = d.breaks;
+  steps = omega (arith, counted);
+  memory = memory;
+  goes_on = goes_on;
 }
-done_line (Err column) mid new n line one fits reads d = absurd d
+done_line (Err column) mid new n line one fits reads d goes_on counted memory = absurd d
 
 -- one line more
-pub go_on : {old mid new : State} {first : ℕ} {script line : List ℕ} {at len number : ℕ} → Progress old mid first script at number → LineAt script at len line → length line ≤ 65536 → LineDone (reading_of line) mid new → Progress old new first script (at + (len + 1)) (number + 1)
-go_on {old = old} {mid = mid} {new = new} {first = first} {script = script} {line = line} {at = at} {len = len} {number = number} p n fits d =
-    let more : DoneLine mid new number line = done_line (reading_of line) mid new number line n.one fits refl d.means in
-    record {
-      out = p.out ++ more.out;
-      told = grew_then old.told mid.told new.told p.out more.out p.told more.told;
-      counts = counts_then p.counts more.counts;
-      lines = let W : List ℕ → Type 0 = λ bytes. WholeLines old.table first bytes (p.out ++ more.out) new.table (number + 1) in subst W (sym n.upto) (lines_then p.lines more.lines);
-    }
+pub go_on : {old mid new : State} {first : ℕ} {script line : List ℕ} {at len number : ℕ} → CarriedOut old mid first (take at script) number → LineAt script at len line → length line ≤ 65536
+    → Stepped Done (reading_of line) mid new → CarriedOut old new first (take (at + (len + 1)) script) (number + 1)
+go_on {old = old} {mid = mid} {new = new} {first = first} {line = line} {number = number} p n fits d =
+    let C : List ℕ → Type 0 = λ bytes. CarriedOut old new first bytes (number + 1) in
+    subst C (sym n.upto) (carried_then p (done_line (reading_of line) mid new number line n.one fits refl d.means.means d.means.goes_on d.counted d.memory))
 
 -- ---- how a line ends them
 
-pub halt_bad : {old mid new : State} {first : ℕ} {script line : List ℕ} {at len number column : ℕ} → Progress old mid first script at number → LineAt script at len line → length line ≤ 65536 → LineBad column (reading_of line) mid new → IsEnded old new first script (BadLine number column)
-halt_bad {mid = mid} {script = script} {line = line} {at = at} {len = len} {number = number} {column = column} p n fits b = record {
-  reached = standing p;
+pub halt_bad : {old mid new : State} {first : ℕ} {script line : List ℕ} {at len number column : ℕ} → CarriedOut old mid first (take at script) number → LineAt script at len line → length line ≤ 65536
+    → Stepped (BadLine column) (reading_of line) mid new → (tail : Tail) → IsEnded (is_bad number column) tail first script old new
+halt_bad {mid = mid} {script = script} {line = line} {at = at} {len = len} {number = number} {column = column} p n fits b tail = record {
+  reached = standing script at p;
   is_fault = tt;
-  ends = λ tail. ap (transcript_at tail mid.table number) n.is ∙ line_bad tail mid.table number column line (drop (at + (len + 1)) script) n.one fits b.reads;
-  table = b.unmoved.table;
-  told = b.unmoved.told ∙ p.told;
-  counts = counts_then p.counts b.unmoved.counts;
+  ends = λ givens. ap (transcript_at givens tail mid.machine.table number) n.is ∙ line_bad givens tail mid.machine.table number column line (drop (at + (len + 1)) script) n.one fits b.means.reads;
+  unmoved = b.means.unmoved;
 }
 
-pub halt_long : {old mid : State} {first : ℕ} {script line : List ℕ} {at len number : ℕ} → Progress old mid first script at number → LineAt script at len line → 65536 < length line → IsEnded old mid first script (LineTooLong number)
-halt_long {mid = mid} {script = script} {line = line} {at = at} {len = len} {number = number} p n long = record {
-  reached = standing p;
+pub halt_long : {old mid : State} {first : ℕ} {script line : List ℕ} {at len number : ℕ} → CarriedOut old mid first (take at script) number → LineAt script at len line → 65536 < length line
+    → (tail : Tail) → IsEnded (LineTooLong number) tail first script old mid
+halt_long {mid = mid} {script = script} {line = line} {at = at} {len = len} {number = number} p n long tail = record {
+  reached = standing script at p;
   is_fault = tt;
-  ends = λ tail. ap (transcript_at tail mid.table number) n.is ∙ line_long tail mid.table number line (10 ∷ drop (at + (len + 1)) script) n.one long;
-  table = refl;
-  told = p.told;
-  counts = p.counts;
+  ends = λ givens. ap (transcript_at givens tail mid.machine.table number) n.is ∙ line_long givens tail mid.machine.table number line (10 ∷ drop (at + (len + 1)) script) n.one long;
+  unmoved = record { table = refl; breaks = refl; sink = refl };
 }
 
-pub halt_broken : {old mid new : State} {first : ℕ} {script line : List ℕ} {at len number : ℕ} → Progress old mid first script at number → LineAt script at len line → length line ≤ 65536 → LineBroken (reading_of line) mid new → IsBroken old new first script number
-halt_broken {mid = mid} {new = new} {script = script} {line = line} {at = at} {len = len} {number = number} p n fits b = record {
-  reached = standing p;
-  numbered = refl;
-  line = b.line;
-  next = λ tail. next_ended tail mid.table number (drop at script) line (drop (at + (len + 1)) script) b.line n.is n.one fits b.reads;
-  told = b.told ∙ p.told;
-  faults = b.faults ∙ p.counts.faults;
-  risen = let R : ℕ → Type 0 = λ k. HasRisen k new.breaks in subst R p.counts.breaks b.risen;
-}
+-- a line of the grammar that ended them
+abbrev pub halt_at : {step : Step} {old mid new : State} {first : ℕ} {script line : List ℕ} {at len number : ℕ} → CarriedOut old mid first (take at script) number → LineAt script at len line → length line ≤ 65536
+    → Stepped step (reading_of line) mid new → (l : Line) → reading_of line ≡ Ok (Some l) → (tail : Tail) → StoppedBy step tail first script old new
+halt_at {step = step} {mid = mid} {new = new} {script = script} {line = line} {at = at} {len = len} {number = number} p n fits s l reads tail =
+    let others = drop (at + (len + 1)) script in
+    let S : List ℕ → Type 0 = λ first. Stepped step (reading_of first) mid new in
+    record {
+      reached = standing script at p;
+      line = l;
+      next = next_ended tail mid.machine.table number (drop at script) line others l n.is n.one fits reads;
+      stepped = subst S (sym (ap first_line n.is ∙ first_line_ended line others n.one)) s;
+    }
 
-pub halt_cut : {old mid new : State} {first : ℕ} {script line : List ℕ} {at len number : ℕ} → Progress old mid first script at number → LineAt script at len line → length line ≤ 65536 → LineCut (reading_of line) mid new → IsCut old new first script
-halt_cut {old = old} {mid = mid} {new = new} {script = script} {line = line} {at = at} {len = len} {number = number} p n fits b = record {
-  reached = standing p;
-  line = b.line;
-  next = λ tail. next_ended tail mid.table number (drop at script) line (drop (at + (len + 1)) script) b.line n.is n.one fits b.reads;
-  front = b.toward.0;
-  is_front = b.toward.1;
-  told = grew_then old.told mid.told new.told p.out b.toward.0 p.told b.toward.2;
-  breaks = b.breaks ∙ p.counts.breaks;
-  risen = let R : ℕ → Type 0 = λ k. HasRisen k new.faults in subst R p.counts.faults b.risen;
-}
-
-pub halt_starved : {old mid new : State} {first : ℕ} {script : List ℕ} {reading : Result (Option Line) ℕ} {at number : ℕ} → Progress old mid first script at number → LineStarved reading mid new → IsStarved old new first script
-halt_starved p b = record {
-  reached = standing p;
-  told = b.told ∙ p.told;
-  counts = counts_then p.counts b.counts;
-}
+pub halt_broken : {old mid new : State} {first : ℕ} {script line : List ℕ} {at len number : ℕ} → CarriedOut old mid first (take at script) number → LineAt script at len line → length line ≤ 65536
+    → Stepped Broken (reading_of line) mid new → (tail : Tail) → IsBroken number tail first script old new
+halt_broken p n fits s tail = record { stopped = halt_at p n fits s s.means.line s.means.reads tail; numbered = refl }

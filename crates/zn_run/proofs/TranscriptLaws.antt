@@ -3,12 +3,13 @@ use Rattle.std.proofs.Common.{◌≡◌, ℕ, ◌+◌, ◌<◌, ◌≤◌, Bool,
 use Rattle.std.proofs.lemmas.List.Splits.{slice_split_at, slice_split_none, slice_split-cons_no}
 use Rattle.std.proofs.lemmas.List.Elements.{All-head, All-tail}
 use Rattle.std.specs.List.{onto_first, slice_split}
-use Rattle.zn_model.specs.declared.runs.Tail.{Tail}
-use Rattle.zn_model.specs.declared.runs.Ending.TheVariants.{BadLine, LineTooLong}
-use Rattle.zn_model.specs.Lines.{Line}
-use Rattle.zn_model.specs.Grammar.{reading_of}
-use Rattle.zn_model.specs.Session.{Table, line_step}
-use Rattle.zn_model.specs.Transcript.{Transcript, stop, with_text, line_then, last_piece, transcript_from, pieces, transcript_at, is_newline, NotNewline, OneLine}
+use Rattle.zn_lines.specs.declared.runs.Tail.{Tail}
+use Rattle.zn_lines.specs.declared.runs.Ending.TheVariants.{BadLine, LineTooLong}
+use Rattle.zn_lines.specs.Lines.{Line}
+use Rattle.zn_lines.specs.Grammar.{reading_of}
+use Rattle.zn_lines.specs.Table.{Table}
+use Rattle.zn_lines.specs.Session.{line_step}
+use Rattle.zn_lines.specs.Transcript.{Transcript, stop, with_text, first_given, more_given, line_then, last_piece, transcript_from, pieces, transcript_at, is_newline, NotNewline, OneLine}
 
 pub with_text-append : (a b : List ℕ) (t : Transcript) → with_text a (with_text b t) ≡ with_text (a ++ b) t
 with_text-append a b t = ap (λ text. record t { text = text }) (sym (append_assoc a b t.text))
@@ -23,20 +24,20 @@ pub some_piece : (bytes : List ℕ) → (piece : List ℕ) × (more : List (List
 some_piece [] = ([], [], refl)
 some_piece (b ∷ bytes) = onto_some b (slice_split is_newline bytes) (is_newline b)
 
-step_is : (tail : Tail) (table : Table) (n : ℕ) (line piece : List ℕ) (more : List (List ℕ)) → length line ≤ 65536 → transcript_from tail table n (line ∷ piece ∷ more) ≡ line_then (reading_of line) table n (λ after. transcript_from tail after (n + 1) (piece ∷ more))
+step_is : (givens : List (List ℕ)) (tail : Tail) (table : Table) (n : ℕ) (line piece : List ℕ) (more : List (List ℕ)) → length line ≤ 65536 → transcript_from givens tail table n (line ∷ piece ∷ more) ≡ line_then (first_given givens) (reading_of line) table n (λ after. transcript_from (more_given givens) tail after (n + 1) (piece ∷ more))
 unfolding transcript_from
-step_is tail table n line piece more fits =
+step_is givens tail table n line piece more fits =
     let short : ltb 65536 (length line) ≡ false = le-ltb _ _ fits in
     rw short refl
 
-step_long : (tail : Tail) (table : Table) (n : ℕ) (line : List ℕ) (more : List (List ℕ)) → 65536 < length line → transcript_from tail table n (line ∷ more) ≡ stop table (LineTooLong n)
+step_long : (givens : List (List ℕ)) (tail : Tail) (table : Table) (n : ℕ) (line : List ℕ) (more : List (List ℕ)) → 65536 < length line → transcript_from givens tail table n (line ∷ more) ≡ stop table (LineTooLong n)
 unfolding transcript_from
-step_long tail table n line [] long = rw (lt-ltb _ _ long) refl
-step_long tail table n line (piece ∷ more) long = rw (lt-ltb _ _ long) refl
+step_long givens tail table n line [] long = rw (lt-ltb _ _ long) refl
+step_long givens tail table n line (piece ∷ more) long = rw (lt-ltb _ _ long) refl
 
-step_last : (tail : Tail) (table : Table) (n : ℕ) (line : List ℕ) → length line ≤ 65536 → transcript_from tail table n (line ∷ []) ≡ last_piece tail table n line
+step_last : (givens : List (List ℕ)) (tail : Tail) (table : Table) (n : ℕ) (line : List ℕ) → length line ≤ 65536 → transcript_from givens tail table n (line ∷ []) ≡ last_piece (first_given givens) tail table n line
 unfolding transcript_from
-step_last tail table n line fits =
+step_last givens tail table n line fits =
     let short : ltb 65536 (length line) ≡ false = le-ltb _ _ fits in
     rw short refl
 
@@ -48,42 +49,42 @@ first_grows (b ∷ line) more first others one e =
     ∙ ap (onto_first b) (first_grows line more first others (All-tail NotNewline b line one) e)
 
 -- a line, by how it is read
-line_is : (tail : Tail) (table : Table) (n : ℕ) (line more : List ℕ) → OneLine line → length line ≤ 65536 → transcript_at tail table n (line ++ 10 ∷ more) ≡ line_then (reading_of line) table n (λ after. transcript_at tail after (n + 1) more)
+line_is : (givens : List (List ℕ)) (tail : Tail) (table : Table) (n : ℕ) (line more : List ℕ) → OneLine line → length line ≤ 65536 → transcript_at givens tail table n (line ++ 10 ∷ more) ≡ line_then (first_given givens) (reading_of line) table n (λ after. transcript_at (more_given givens) tail after (n + 1) more)
 unfolding pieces
-line_is tail table n line more one fits =
+line_is givens tail table n line more one fits =
     let s = some_piece more in
     let cut : slice_split is_newline (line ++ 10 ∷ more) ≡ line ∷ s.0 ∷ s.1 = slice_split_at is_newline line 10 more one refl ∙ ap (λ ps. line ∷ ps) s.2 in
-    ap (transcript_from tail table n) cut ∙ step_is tail table n line s.0 s.1 fits
-    ∙ ap (λ ps. line_then (reading_of line) table n (λ after. transcript_from tail after (n + 1) ps)) (sym s.2)
+    ap (transcript_from givens tail table n) cut ∙ step_is givens tail table n line s.0 s.1 fits
+    ∙ ap (λ ps. line_then (first_given givens) (reading_of line) table n (λ after. transcript_from (more_given givens) tail after (n + 1) ps)) (sym s.2)
 
 -- a line of the grammar
-pub line_read : (tail : Tail) (table : Table) (n : ℕ) (l : Line) (line more : List ℕ) → OneLine line → length line ≤ 65536 → reading_of line ≡ Ok (Some l)
-    → transcript_at tail table n (line ++ 10 ∷ more) ≡ with_text (line_step table l).text (transcript_at tail (line_step table l).table (n + 1) more)
-line_read tail table n l line more one fits reads =
-    line_is tail table n line more one fits ∙ ap (λ r. line_then r table n (λ after. transcript_at tail after (n + 1) more)) reads
+pub line_read : (givens : List (List ℕ)) (tail : Tail) (table : Table) (n : ℕ) (l : Line) (line more : List ℕ) → OneLine line → length line ≤ 65536 → reading_of line ≡ Ok (Some l)
+    → transcript_at givens tail table n (line ++ 10 ∷ more) ≡ with_text (line_step (first_given givens) table l).text (transcript_at (more_given givens) tail (line_step (first_given givens) table l).table (n + 1) more)
+line_read givens tail table n l line more one fits reads =
+    line_is givens tail table n line more one fits ∙ ap (λ r. line_then (first_given givens) r table n (λ after. transcript_at (more_given givens) tail after (n + 1) more)) reads
 
 -- an empty line or a comment
-pub line_passed : (tail : Tail) (table : Table) (n : ℕ) (line more : List ℕ) → OneLine line → length line ≤ 65536 → reading_of line ≡ Ok None
-    → transcript_at tail table n (line ++ 10 ∷ more) ≡ transcript_at tail table (n + 1) more
-line_passed tail table n line more one fits reads =
-    line_is tail table n line more one fits ∙ ap (λ r. line_then r table n (λ after. transcript_at tail after (n + 1) more)) reads
+pub line_passed : (givens : List (List ℕ)) (tail : Tail) (table : Table) (n : ℕ) (line more : List ℕ) → OneLine line → length line ≤ 65536 → reading_of line ≡ Ok None
+    → transcript_at givens tail table n (line ++ 10 ∷ more) ≡ transcript_at (more_given givens) tail table (n + 1) more
+line_passed givens tail table n line more one fits reads =
+    line_is givens tail table n line more one fits ∙ ap (λ r. line_then (first_given givens) r table n (λ after. transcript_at (more_given givens) tail after (n + 1) more)) reads
 
 -- a line outside the grammar
-pub line_bad : (tail : Tail) (table : Table) (n column : ℕ) (line more : List ℕ) → OneLine line → length line ≤ 65536 → reading_of line ≡ Err column
-    → transcript_at tail table n (line ++ 10 ∷ more) ≡ stop table (BadLine n column)
-line_bad tail table n column line more one fits reads =
-    line_is tail table n line more one fits ∙ ap (λ r. line_then r table n (λ after. transcript_at tail after (n + 1) more)) reads
+pub line_bad : (givens : List (List ℕ)) (tail : Tail) (table : Table) (n column : ℕ) (line more : List ℕ) → OneLine line → length line ≤ 65536 → reading_of line ≡ Err column
+    → transcript_at givens tail table n (line ++ 10 ∷ more) ≡ stop table (BadLine n column)
+line_bad givens tail table n column line more one fits reads =
+    line_is givens tail table n line more one fits ∙ ap (λ r. line_then (first_given givens) r table n (λ after. transcript_at (more_given givens) tail after (n + 1) more)) reads
 
 -- a line that is too long, with whatever follows
-pub line_long : (tail : Tail) (table : Table) (n : ℕ) (line more : List ℕ) → OneLine line → 65536 < length line → transcript_at tail table n (line ++ more) ≡ stop table (LineTooLong n)
+pub line_long : (givens : List (List ℕ)) (tail : Tail) (table : Table) (n : ℕ) (line more : List ℕ) → OneLine line → 65536 < length line → transcript_at givens tail table n (line ++ more) ≡ stop table (LineTooLong n)
 unfolding pieces
-line_long tail table n line more one long =
+line_long givens tail table n line more one long =
     let s = some_piece more in
     let far : 65536 < length (line ++ s.0) = omega (arith, length-append line s.0) in
-    ap (transcript_from tail table n) (first_grows line more s.0 s.1 one s.2) ∙ step_long tail table n (line ++ s.0) s.1 far
+    ap (transcript_from givens tail table n) (first_grows line more s.0 s.1 one s.2) ∙ step_long givens tail table n (line ++ s.0) s.1 far
 
 -- what no newline ends
-pub last_is : (tail : Tail) (table : Table) (n : ℕ) (line : List ℕ) → OneLine line → length line ≤ 65536 → transcript_at tail table n line ≡ last_piece tail table n line
+pub last_is : (givens : List (List ℕ)) (tail : Tail) (table : Table) (n : ℕ) (line : List ℕ) → OneLine line → length line ≤ 65536 → transcript_at givens tail table n line ≡ last_piece (first_given givens) tail table n line
 unfolding pieces
-last_is tail table n line one fits =
-    ap (transcript_from tail table n) (slice_split_none is_newline line one) ∙ step_last tail table n line fits
+last_is givens tail table n line one fits =
+    ap (transcript_from givens tail table n) (slice_split_none is_newline line one) ∙ step_last givens tail table n line fits

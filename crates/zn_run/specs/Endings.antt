@@ -2,9 +2,9 @@
 use Rattle.std.specs.Prelude.{ℕ, List, ◌++◌, codes}
 use Rattle.std.specs.Fmt.{decimal}
 use Rattle.zn_base.specs.Texts.{◌⧺◌}
-use Rattle.zn_model.specs.declared.runs.Ending.{Ending}
-use Rattle.zn_model.specs.declared.runs.Ending.TheVariants.{Finished, BadLine, LineTooLong, ScriptTooLong, ReadFailed, Unread}
-use Rattle.zn_model.specs.Transcript.{Transcript, last_line}
+use Rattle.zn_lines.specs.declared.runs.Ending.{Ending}
+use Rattle.zn_lines.specs.declared.runs.Ending.TheVariants.{Finished, BadLine, LineTooLong, ScriptTooLong, ReadFailed, Unread}
+use Rattle.zn_lines.specs.Transcript.{Transcript, last_line}
 
 -- a line outside the grammar is told as one that is not built, without its column
 abbrev pub last_line_now : Ending → List ℕ

@@ -1,82 +1,97 @@
 -- What a whole run did, by its status. (own)
-use Rattle.std.specs.Prelude.{◌≡◌, ◌⊎◌, ℕ, List, ◌++◌, take, Option}
-use Rattle.zn_base.specs.Told.{Grew, GrewToward, IsFront, Gave}
-use Rattle.zn_model.specs.declared.runs.Tail.{Tail}
-use Rattle.zn_model.specs.declared.runs.Ending.{Ending}
-use Rattle.zn_model.specs.Lines.{Line}
-use Rattle.zn_model.specs.Session.{Table, line_step}
-use Rattle.zn_model.specs.Transcript.{Transcript, stop, transcript_at, script_limit}
-use Rattle.zn_run.specs.Endings.{last_line_now, whole_text_now, out_of_memory, host_fault}
-use Rattle.zn_run.specs.Progress.{Reached, IsNext}
-use Rattle.zn_run.specs.Script.{TailHolds}
-use Rattle.zn_run.specs.State.{State, SameCounts, HasRisen}
+use Rattle.std.specs.Prelude.{◌≡◌, ◌⊎◌, ℕ, true, List, [], take}
+use Rattle.zn_base.specs.States.{SinkState}
+use Rattle.zn_lines.specs.declared.limits.TheConstants.{SCRIPT_LIMIT}
+use Rattle.zn_lines.specs.declared.runs.Tail.{Tail}
+use Rattle.zn_lines.specs.declared.runs.Tail.TheVariants.{End, Fault as fault_tail, Over, More}
+use Rattle.zn_lines.specs.Transcript.{Transcript, transcript_at}
+use Rattle.zn_run.specs.Endings.{last_line_now, out_of_memory, host_fault}
+use Rattle.zn_run.specs.Progress.{StoppedBy}
+use Rattle.zn_run.specs.Script.{Taken}
+use Rattle.zn_run.specs.States.{State, Run, state_of, driven, Added, CutOff}
 use Rattle.zn_run.specs.Statuses.{EndsBy}
+use Rattle.zn_run.specs.declared.machine.Step.TheVariants.{Broken as broken_step, SinkFault as cut_step, Memory as starved_step}
 use Rattle.zn_run.specs.declared.status.Status.{Status}
 use Rattle.zn_run.specs.declared.status.Status.TheVariants.{Done, Usage, Script, Directory, HostFault, ReadFault, WriteFault, Memory}
 
--- ---- the end of a run
+-- ---- the last line
 
--- The last text of a run is written, which then has this status, or the sink failed in it.
-abbrev pub Closes : Status → Status → List ℕ → Option (List ℕ) → Option (List ℕ) → ℕ → ℕ → Type 0
-Closes result status text told0 told before now =
-    ((result ≡ status) × Grew told0 told text × (now ≡ before)) ⊎ ((result ≡ WriteFault) × GrewToward told0 told text × HasRisen before now)
+-- The last line of a run is written, which then has this status, or the sink failed in it.
+abbrev pub Closes : Status → Status → List ℕ → SinkState → SinkState → Type 0
+Closes result status line old new =
+    ((result ≡ status) × Added line old new) ⊎ ((result ≡ WriteFault) × CutOff line old new)
 
 -- the same, as one clause of the functions that end a run
-pub record Closed (result status : Status) (text : List ℕ) (told0 told : Option (List ℕ)) (before now : ℕ) : Type 0 where
-  pub means : Closes result status text told0 told before now
+pub record Closed (result status : Status) (line : List ℕ) (old new : SinkState) : Type 0 where
+  pub means : Closes result status line old new
+
+-- ---- how a run comes to its last line
+
+-- The replies of this transcript are written, and the table is its own.
+pub record RanWhole (status : Status) (tail : Tail) (t : Transcript) (line : List ℕ) (old new : State) : Type 0 where
+  pub ends : EndsBy status tail t.ending
+  pub last : line ≡ last_line_now t.ending
+  pub table : new.machine.table ≡ t.table
+  pub breaks : new.machine.breaks ≡ old.machine.breaks
+  pub replies : Added t.text old.sink new.sink
+
+-- The replies of all of the script are written. Where the device tells its bytes, nothing is given. Where it doesn't, the
+-- bytes that reads give are those given, a list for each line, and all else is as exact.
+pub record RanGiven (status : Status) (tail : Tail) (first : ℕ) (script line : List ℕ) (old new : State) : Type 0 where
+  pub givens : List (List ℕ)
+  pub told : old.machine.table.world.truth.told ≡ true → givens ≡ []
+  pub whole : RanWhole status tail (transcript_at givens tail old.machine.table first script) line old new
+
+-- the host failed in a line, whose number is told
+pub record RanBroken (tail : Tail) (first : ℕ) (script line : List ℕ) (old new : State) : Type 0 where
+  pub stopped : StoppedBy broken_step tail first script old new
+  pub last : line ≡ host_fault stopped.reached.number
+
+-- there was no memory for a line
+pub record RanStarved (tail : Tail) (first : ℕ) (script line : List ℕ) (old new : State) : Type 0 where
+  pub stopped : StoppedBy starved_step tail first script old new
+  pub last : line ≡ out_of_memory
+
+-- how a run came to its last line, by the status that it has if this is written
+abbrev pub ComesTo : Status → Tail → ℕ → List ℕ → List ℕ → State → State → Type 0
+ComesTo Done tail first script line old new = RanGiven Done tail first script line old new
+ComesTo Usage tail first script line old new = ⊥
+ComesTo Script tail first script line old new = RanGiven Script tail first script line old new
+ComesTo Directory tail first script line old new = ⊥
+ComesTo HostFault tail first script line old new = RanBroken tail first script line old new
+ComesTo ReadFault tail first script line old new = RanGiven ReadFault tail first script line old new
+ComesTo WriteFault tail first script line old new = ⊥
+ComesTo Memory tail first script line old new = RanStarved tail first script line old new
 
 -- ---- a run of some bytes
 
--- all of the transcript is written
-pub record RanWhole (status : Status) (tail : Tail) (t : Transcript) (old new : State) : Type 0 where
-  pub ends : EndsBy status tail t.ending
-  pub table : new.table ≡ t.table
-  pub told : Grew old.told new.told (whole_text_now t)
-  pub counts : SameCounts old new
+-- The run came to this last line, and the sink was as it is here.
+pub record ToLast (status : Status) (tail : Tail) (first : ℕ) (script : List ℕ) (old new : State) : Type 0 where
+  pub line : List ℕ
+  pub sink : SinkState
+  pub comes : ComesTo status tail first script line old (state_of new.machine sink)
 
--- the replies before are written and the last line for a failure of the host, in the line that was next
-pub record RanBroken (tail : Tail) (first : ℕ) (script : List ℕ) (old new : State) : Type 0 where
-  pub reached : Reached old.table first script
-  pub line : Line
-  pub next : IsNext tail reached.table reached.number reached.rest line
-  pub told : Grew old.told new.told (reached.out ++ host_fault reached.number)
-  pub faults : new.faults ≡ old.faults
-  pub risen : HasRisen old.breaks new.breaks
+-- the last line is written
+pub record RanTo (status : Status) (tail : Tail) (first : ℕ) (script : List ℕ) (old new : State) : Type 0 where
+  pub to : ToLast status tail first script old new
+  pub written : Added to.line to.sink new.sink
 
--- the replies before are written and the last line for want of memory
-pub record RanStarved (first : ℕ) (script : List ℕ) (old new : State) : Type 0 where
-  pub reached : Reached old.table first script
-  pub told : Grew old.told new.told (reached.out ++ out_of_memory)
-  pub counts : SameCounts old new
+-- the sink failed in the reply of a line, or in the last line
+pub data RanCut (tail : Tail) (first : ℕ) (script : List ℕ) (old new : State) : Type 0 where
+  in_reply : StoppedBy cut_step tail first script old new → RanCut tail first script old new
+  in_last : (status : Status) (to : ToLast status tail first script old new) → CutOff to.line to.sink new.sink
+      → RanCut tail first script old new
 
--- What is due where this rest is reached: the reply of its first line, or the last line by which the run ends, or
--- that for want of memory, or that for a failure of the host.
-pub data IsDue (tail : Tail) (table : Table) (number : ℕ) (rest : List ℕ) (breaks0 breaks : ℕ) (due : List ℕ) : Type 0 where
-  reply : (line : Line) → IsNext tail table number rest line → due ≡ (line_step table line).text → breaks ≡ breaks0 → IsDue tail table number rest breaks0 breaks due
-  ending : (by : Ending) → transcript_at tail table number rest ≡ stop table by → due ≡ last_line_now by → breaks ≡ breaks0 → IsDue tail table number rest breaks0 breaks due
-  starved : due ≡ out_of_memory → breaks ≡ breaks0 → IsDue tail table number rest breaks0 breaks due
-  broken : (line : Line) → IsNext tail table number rest line → due ≡ host_fault number → HasRisen breaks0 breaks → IsDue tail table number rest breaks0 breaks due
-
--- the replies before are written, and of what was due then a front
-pub record RanCut (tail : Tail) (first : ℕ) (script : List ℕ) (old new : State) : Type 0 where
-  pub reached : Reached old.table first script
-  pub due : List ℕ
-  pub is_due : IsDue tail reached.table reached.number reached.rest old.breaks new.breaks due
-  pub front : List ℕ
-  pub is_front : IsFront front due
-  pub told : Grew old.told new.told (reached.out ++ front)
-  pub risen : HasRisen old.faults new.faults
-
--- what each status says of a run of these bytes; none has the status `Usage` or `Directory`
+-- what each status says of a run of these bytes
 abbrev pub RanMeans : Status → Tail → ℕ → List ℕ → State → State → Type 0
-RanMeans Done tail first script old new = RanWhole Done tail (transcript_at tail old.table first script) old new
+RanMeans Done tail first script old new = RanTo Done tail first script old new
 RanMeans Usage tail first script old new = ⊥
-RanMeans Script tail first script old new = RanWhole Script tail (transcript_at tail old.table first script) old new
+RanMeans Script tail first script old new = RanTo Script tail first script old new
 RanMeans Directory tail first script old new = ⊥
-RanMeans HostFault tail first script old new = RanBroken tail first script old new
-RanMeans ReadFault tail first script old new = RanWhole ReadFault tail (transcript_at tail old.table first script) old new
+RanMeans HostFault tail first script old new = RanTo HostFault tail first script old new
+RanMeans ReadFault tail first script old new = RanTo ReadFault tail first script old new
 RanMeans WriteFault tail first script old new = RanCut tail first script old new
-RanMeans Memory tail first script old new = RanStarved first script old new
+RanMeans Memory tail first script old new = RanTo Memory tail first script old new
 
 -- the run did what its status says
 pub record Ran (status : Status) (tail : Tail) (first : ℕ) (script : List ℕ) (old new : State) : Type 0 where
@@ -84,10 +99,21 @@ pub record Ran (status : Status) (tail : Tail) (first : ℕ) (script : List ℕ)
 
 -- ---- the whole run
 
+-- there was no memory for the script: no line is carried out, and only this is told
+pub record Unrun (result : Status) (old new : State) : Type 0 where
+  pub still : new.machine ≡ old.machine
+  pub closed : Closed result Memory out_of_memory old.sink new.sink
+
+-- the bytes that were taken are run up to the limit of a script, unless they could not be taken whole
+abbrev pub RunsBy : Tail → Status → List ℕ → State → State → Type 0
+RunsBy End result taken old new = Ran result End 1 (take SCRIPT_LIMIT taken) old new
+RunsBy fault_tail result taken old new = Ran result fault_tail 1 (take SCRIPT_LIMIT taken) old new
+RunsBy Over result taken old new = Ran result Over 1 (take SCRIPT_LIMIT taken) old new
+RunsBy More result taken old new = Unrun result old new
+
 -- The bytes that were taken, what came after them, and the run of just these.
-pub record Headline (status : Status) (left0 left : Option (List ℕ)) (reads0 reads : ℕ) (old new : State) : Type 0 where
-  pub taken : List ℕ
+pub record Headline (result : Status) (old new : Run) : Type 0 where
+  pub bytes : List ℕ
   pub tail : Tail
-  pub gave : Gave left0 left taken
-  pub holds : TailHolds tail taken left reads0 reads
-  pub ran : Ran status tail 1 (take script_limit taken) old new
+  pub taken : Taken bytes tail old.source new.source
+  pub ran : RunsBy tail result bytes (driven old) (driven new)

@@ -3,6 +3,6 @@ pub mod Headline
 pub mod Laws
 pub mod Progress
 pub mod Script
-pub mod State
+pub mod States
 pub mod Statuses
 pub mod Steps

@@ -1,28 +1,32 @@
 -- What is taken from a source as a script. (own)
-use Rattle.std.specs.Prelude.{◌≡◌, ◌≢◌, ◌≤◌, ◌<◌, ℕ, List, length, take, Option}
+use Rattle.std.specs.Prelude.{◌≡◌, ◌≢◌, ◌≤◌, ◌+◌, ℕ, List, length, take}
+use Rattle.zn_base.specs.States.{SourceState}
 use Rattle.zn_base.specs.Told.{Gave, IsAtEnd}
-use Rattle.zn_model.specs.declared.runs.Tail.{Tail}
-use Rattle.zn_model.specs.declared.runs.Tail.TheVariants.{End, Fault, Over, More}
-use Rattle.zn_model.specs.Transcript.{script_limit}
-use Rattle.zn_run.specs.State.{HasRisen}
+use Rattle.zn_lines.specs.declared.limits.TheConstants.{SCRIPT_LIMIT}
+use Rattle.zn_lines.specs.declared.runs.Tail.{Tail}
+use Rattle.zn_lines.specs.declared.runs.Tail.TheVariants.{End, Fault, Over, More}
+use Rattle.zn_run.specs.States.{HasRisen}
 
--- what the tail says of the source, and of the bytes that were taken
-abbrev pub TailHolds : Tail → List ℕ → Option (List ℕ) → ℕ → ℕ → Type 0
-TailHolds End taken left before now = (length taken ≤ script_limit) × IsAtEnd left × (now ≡ before)
-TailHolds Fault taken left before now = (length taken ≤ script_limit) × HasRisen before now
-TailHolds Over taken left before now = (script_limit < length taken) × (now ≡ before)
-TailHolds More taken left before now = now ≡ before
+-- What the tail says of the source, and of the bytes that were taken: one byte beyond the limit is the last that is read.
+abbrev pub TailHolds : Tail → List ℕ → SourceState → SourceState → Type 0
+TailHolds End taken old new = (length taken ≤ SCRIPT_LIMIT) × IsAtEnd new.left × (new.faults ≡ old.faults)
+TailHolds Fault taken old new = (length taken ≤ SCRIPT_LIMIT) × HasRisen old.faults new.faults
+TailHolds Over taken old new = (length taken ≡ SCRIPT_LIMIT + 1) × (new.faults ≡ old.faults)
+TailHolds More taken old new = (length taken ≤ SCRIPT_LIMIT + 1) × (new.faults ≡ old.faults)
+
+-- these bytes were taken, and this comes after them
+pub record Taken (taken : List ℕ) (tail : Tail) (old new : SourceState) : Type 0 where
+  pub gave : Gave old.left new.left taken
+  pub holds : TailHolds tail taken old new
 
 -- The script is the bytes that were taken, up to the limit.
-pub record Takes (left0 left : Option (List ℕ)) (before now : ℕ) (script : List ℕ) (tail : Tail) : Type 0 where
-  pub taken : List ℕ
-  pub gave : Gave left0 left taken
-  pub script_is : script ≡ take script_limit taken
+pub record Takes (script : List ℕ) (tail : Tail) (old new : SourceState) : Type 0 where
+  pub bytes : List ℕ
+  pub script_is : script ≡ take SCRIPT_LIMIT bytes
   pub known : tail ≢ More
-  pub holds : TailHolds tail taken left before now
+  pub taken : Taken bytes tail old new
 
 -- some bytes were taken, and no more is known
-pub record TakesSome (left0 left : Option (List ℕ)) (before now : ℕ) : Type 0 where
-  pub taken : List ℕ
-  pub gave : Gave left0 left taken
-  pub kept : now ≡ before
+pub record TakesSome (old new : SourceState) : Type 0 where
+  pub bytes : List ℕ
+  pub taken : Taken bytes More old new

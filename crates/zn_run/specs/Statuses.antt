@@ -1,9 +1,9 @@
 -- How a run ended. (own)
 use Rattle.std.specs.Prelude.{◌≡◌, ℕ}
-use Rattle.zn_model.specs.declared.runs.Tail.{Tail}
-use Rattle.zn_model.specs.declared.runs.Tail.TheVariants.{End, Fault}
-use Rattle.zn_model.specs.declared.runs.Ending.{Ending}
-use Rattle.zn_model.specs.declared.runs.Ending.TheVariants.{Finished, BadLine, LineTooLong, ScriptTooLong, ReadFailed, Unread}
+use Rattle.zn_lines.specs.declared.runs.Tail.{Tail}
+use Rattle.zn_lines.specs.declared.runs.Tail.TheVariants.{End, Fault}
+use Rattle.zn_lines.specs.declared.runs.Ending.{Ending}
+use Rattle.zn_lines.specs.declared.runs.Ending.TheVariants.{Finished, BadLine, LineTooLong, ScriptTooLong, ReadFailed, Unread}
 use Rattle.zn_run.specs.declared.status.Status.{Status}
 use Rattle.zn_run.specs.declared.status.Status.TheVariants.{Done, Usage, Script, Directory, HostFault, ReadFault, WriteFault, Memory}
 
@@ -17,6 +17,15 @@ code_of HostFault = 5
 code_of ReadFault = 6
 code_of WriteFault = 7
 code_of Memory = 8
+
+-- the status of a run that writes all that is due and ends so; a script that was not taken whole lacked memory
+abbrev pub status_of : Ending → Status
+status_of Finished = Done
+status_of (BadLine n column) = Script
+status_of (LineTooLong n) = Script
+status_of (ScriptTooLong n) = Script
+status_of ReadFailed = ReadFault
+status_of Unread = Memory
 
 -- the script itself ended the run
 abbrev pub IsScriptFault : Ending → Type 0

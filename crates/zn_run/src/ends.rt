@@ -1,18 +1,16 @@
 // The last line of a run.
 ghost use Rattle.std.specs.Prelude.{◌≡◌, is_ok, if◌then◌else◌};
-ghost use Rattle.zn_base.specs.Told.{Writes};
+ghost use Rattle.zn_base.specs.States.{Writes};
 ghost use Rattle.zn_run.specs.Endings.{last_line_now, out_of_memory, host_fault};
 ghost use Rattle.zn_run.specs.Headline.{Closed};
-ghost use Rattle.zn_run.specs.Statuses.{IsScriptFault};
 
 use crate::status::Status;
 use zn_base::{Part, Sink, WriteFault, write_all, write_parts};
-use zn_model::Ending;
+use zn_lines::Ending;
 
 /// Writes the last line of a run that ends so.
 fn write_last_line<K: Sink>(sink: &mut K, ending: Ending) -> Result<(), WriteFault>
-    ensures { Writes (K.written sink.old) (K.written sink.new)
-        (K.faults sink.old) (K.faults sink.new) result (last_line_now ending) }
+    ensures { Writes result (last_line_now ending) (K.state sink.old) (K.state sink.new) }
 {
     match ending {
         Ending::Finished | Ending::Unread => write_parts(sink, &[]),
@@ -44,7 +42,7 @@ fn write_last_line<K: Sink>(sink: &mut K, ending: Ending) -> Result<(), WriteFau
     }
 }
 
-/// The status of a run whose last text was to be written.
+/// The status of a run whose last line was to be written.
 fn status_after(written: Result<(), WriteFault>, status: Status) -> Status
     ensures { result ≡ (if is_ok written then status else Status.WriteFault) }
 {
@@ -54,34 +52,37 @@ fn status_after(written: Result<(), WriteFault>, status: Status) -> Status
     }
 }
 
+/// Ends a run by this last line and this status.
+pub fn end_with<K: Sink>(sink: &mut K, line: &[u8], status: Status) -> Status
+    ensures { Closed result status line.now (K.state sink.old) (K.state sink.new) }
+{
+    status_after(write_all(sink, line), status)
+}
+
+/// Ends a run for want of memory.
+pub fn end_starved<K: Sink>(sink: &mut K) -> Status
+    ensures { Closed result Status.Memory out_of_memory (K.state sink.old) (K.state sink.new) }
+{
+    end_with(sink, b"out-of-memory\n", Status::Memory)
+}
+
 /// Ends a run by its script.
-pub fn close_script<K: Sink>(sink: &mut K, ending: Ending) -> Status
-    ensures { Closed result Status.Script (last_line_now ending)
-        (K.written sink.old) (K.written sink.new) (K.faults sink.old) (K.faults sink.new) }
+pub fn end_by_script<K: Sink>(sink: &mut K, ending: Ending) -> Status
+    ensures { Closed result Status.Script (last_line_now ending) (K.state sink.old) (K.state sink.new) }
 {
     status_after(write_last_line(sink, ending), Status::Script)
 }
 
 /// Ends a run whose script could not be read to its end.
-pub fn close_unread<K: Sink>(sink: &mut K) -> Status
-    ensures { Closed result Status.ReadFault (last_line_now Ending.ReadFailed)
-        (K.written sink.old) (K.written sink.new) (K.faults sink.old) (K.faults sink.new) }
+pub fn end_unread<K: Sink>(sink: &mut K) -> Status
+    ensures { Closed result Status.ReadFault (last_line_now Ending.ReadFailed) (K.state sink.old) (K.state sink.new) }
 {
     status_after(write_last_line(sink, Ending::ReadFailed), Status::ReadFault)
 }
 
-/// Ends a run for want of memory.
-pub fn close_starved<K: Sink>(sink: &mut K) -> Status
-    ensures { Closed result Status.Memory out_of_memory
-        (K.written sink.old) (K.written sink.new) (K.faults sink.old) (K.faults sink.new) }
-{
-    status_after(write_all(sink, b"out-of-memory\n"), Status::Memory)
-}
-
 /// Ends a run in whose line of this number the host failed.
-pub fn close_broken<K: Sink>(sink: &mut K, number: u64) -> Status
-    ensures { Closed result Status.HostFault (host_fault number)
-        (K.written sink.old) (K.written sink.new) (K.faults sink.old) (K.faults sink.new) }
+pub fn end_broken<K: Sink>(sink: &mut K, number: u64) -> Status
+    ensures { Closed result Status.HostFault (host_fault number) (K.state sink.old) (K.state sink.new) }
 {
     let written = write_parts(
         sink,

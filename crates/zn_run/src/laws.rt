@@ -1,5 +1,5 @@
 // Laws of runs, each the contract of a function that does nothing.
-ghost use Rattle.zn_run.specs.Laws.{DecidedStays, WholeLinesAlone, FaultlessRuns, DoneRuns};
+ghost use Rattle.zn_run.specs.Laws.{DecidedStays, WholeLinesAlone, StatusesHaveCauses, FaultlessRuns, DoneRuns, WholeRuns};
 
 /// Once a line has ended a run, no bytes behind it matter.
 #[tactic(auto, using(crate::proofs::DecidedLaws::decided_stays))]
@@ -13,6 +13,12 @@ pub fn whole_lines_alone()
     ensures { WholeLinesAlone }
 {}
 
+/// Each status of a run has its cause.
+#[tactic(auto, using(crate::proofs::RunLaws::statuses_have_causes))]
+pub fn statuses_have_causes()
+    ensures { StatusesHaveCauses }
+{}
+
 /// Without faults a run carries out its script, or the script ends it, or there is no memory.
 #[tactic(auto, using(crate::proofs::RunLaws::faultless_runs))]
 pub fn faultless_runs()
@@ -23,4 +29,10 @@ pub fn faultless_runs()
 #[tactic(auto, using(crate::proofs::RunLaws::done_runs))]
 pub fn done_runs()
     ensures { DoneRuns }
+{}
+
+/// Where source and device tell their bytes, a run without faults did all that its script is due.
+#[tactic(auto, using(crate::proofs::RunLaws::whole_runs))]
+pub fn whole_runs()
+    ensures { WholeRuns }
 {}

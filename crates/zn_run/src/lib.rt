@@ -4,13 +4,14 @@
 mod ends;
 pub mod laws;
 mod lines;
+mod machine;
 mod runs;
 mod script;
-mod session;
 mod status;
 
+pub use ends::{end_starved, end_with};
+pub use machine::{Machine, Step};
 pub use runs::run;
-pub use session::{Machine, Step};
 pub use status::Status;
 
 #[cfg(test)]

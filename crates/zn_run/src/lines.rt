@@ -1,16 +1,14 @@
 // The lines of a script, one after another.
 ghost use Rattle.std.specs.Prelude.{◌≡◌, ◌<◌, ◌+◌, ◌^◌, false, length, MatchOption};
-ghost use Rattle.zn_model.specs.Transcript.{OneLine, FirstLineEnds};
+ghost use Rattle.zn_lines.specs.declared.runs.Tail.{Tail};
+ghost use Rattle.zn_lines.specs.Transcript.{OneLine, FirstLineEnds};
 ghost use Rattle.zn_run.specs.Progress.{HaltMeans};
-ghost use Rattle.zn_run.specs.State.{state_of};
+ghost use Rattle.zn_run.specs.States.{state_of};
 
-use crate::session::{Machine, Step};
+use crate::machine::{Machine, Step};
 use memchr::memchr;
 use zn_base::Sink;
-use zn_model::Ending;
-
-/// The most bytes of a line, without its newline.
-pub const LINE_LIMIT: usize = 65536;
+use zn_lines::{Ending, LINE_LIMIT};
 
 /// Where the first line ends.
 fn newline_at(bytes: &[u8]) -> Option<usize>
@@ -39,12 +37,10 @@ pub fn carry_out<M: Machine, K: Sink>(
     sink: &mut K,
 ) -> Halt
     requires numbers { first + length script.now < 2 ^ 64 }
-    requires goes_on { M.is_over machine.old ≡ false }
-    ensures { HaltMeans result first script.now
-        (state_of (M.table machine.old) (M.is_over machine.old) (M.break_count machine.old)
-        (K.written sink.old) (K.faults sink.old))
-        (state_of (M.table machine.new) (M.is_over machine.new) (M.break_count machine.new)
-        (K.written sink.new) (K.faults sink.new)) }
+    requires few { (M.state machine.old).steps + length script.now < 2 ^ 62 }
+    requires goes_on { (M.state machine.old).over ≡ false }
+    ensures { (tail : Tail) → HaltMeans result tail first script.now
+        (state_of (M.state machine.old) (K.state sink.old)) (state_of (M.state machine.new) (K.state sink.new)) }
 {
     let mut at = 0;
     let mut number = first;

@@ -1,17 +1,18 @@
 // The whole run of a script.
 ghost use Rattle.std.specs.Prelude.{◌≡◌, ◌≢◌, ◌<◌, ◌≤◌, ◌^◌, false, length};
-ghost use Rattle.zn_model.specs.Transcript.{OneLine, line_limit};
+ghost use Rattle.zn_lines.specs.declared.limits.TheConstants.{SCRIPT_LIMIT};
+ghost use Rattle.zn_lines.specs.Transcript.{OneLine};
 ghost use Rattle.zn_run.specs.Headline.{Ran, Headline};
-ghost use Rattle.zn_run.specs.State.{state_of};
+ghost use Rattle.zn_run.specs.States.{run_of, state_of};
 
-use crate::ends::{close_broken, close_script, close_starved, close_unread};
-use crate::lines::{Halt, LINE_LIMIT, carry_out};
+use crate::ends::{end_broken, end_by_script, end_starved, end_unread};
+use crate::lines::{Halt, carry_out};
+use crate::machine::{Machine, Step};
 use crate::script::take_script;
-use crate::session::{Machine, Step};
 use crate::status::Status;
 use std::alloc::Global;
 use zn_base::{Sink, Source};
-use zn_model::{Ending, Tail};
+use zn_lines::{Ending, LINE_LIMIT, Tail};
 
 /// Carries out the last line of a script, which no newline ends.
 fn run_last_line<M: Machine, K: Sink>(
@@ -22,20 +23,18 @@ fn run_last_line<M: Machine, K: Sink>(
 ) -> Status
     requires one { OneLine line.now }
     requires some { 0 < length line.now }
-    requires fits { length line.now ≤ line_limit }
-    requires goes_on { M.is_over machine.old ≡ false }
+    requires fits { length line.now ≤ LINE_LIMIT }
+    requires goes_on { (M.state machine.old).over ≡ false }
+    requires few { (M.state machine.old).steps < 2 ^ 62 }
     ensures { Ran result Tail.End number line.now
-        (state_of (M.table machine.old) (M.is_over machine.old) (M.break_count machine.old)
-        (K.written sink.old) (K.faults sink.old))
-        (state_of (M.table machine.new) (M.is_over machine.new) (M.break_count machine.new)
-        (K.written sink.new) (K.faults sink.new)) }
+        (state_of (M.state machine.old) (K.state sink.old)) (state_of (M.state machine.new) (K.state sink.new)) }
 {
     match machine.step(line, sink) {
         Step::Done => Status::Done,
-        Step::BadLine(column) => close_script(sink, Ending::BadLine(number, column)),
-        Step::Broken => close_broken(sink, number),
+        Step::BadLine(column) => end_by_script(sink, Ending::BadLine(number, column)),
+        Step::Broken => end_broken(sink, number),
         Step::SinkFault => Status::WriteFault,
-        Step::Memory => close_starved(sink),
+        Step::Memory => end_starved(sink),
     }
 }
 
@@ -49,21 +48,19 @@ fn run_rest<M: Machine, K: Sink>(
 ) -> Status
     requires one { OneLine rest.now }
     requires known { tail ≢ Tail.More }
-    requires goes_on { M.is_over machine.old ≡ false }
+    requires goes_on { (M.state machine.old).over ≡ false }
+    requires few { (M.state machine.old).steps < 2 ^ 62 }
     ensures { Ran result tail number rest.now
-        (state_of (M.table machine.old) (M.is_over machine.old) (M.break_count machine.old)
-        (K.written sink.old) (K.faults sink.old))
-        (state_of (M.table machine.new) (M.is_over machine.new) (M.break_count machine.new)
-        (K.written sink.new) (K.faults sink.new)) }
+        (state_of (M.state machine.old) (K.state sink.old)) (state_of (M.state machine.new) (K.state sink.new)) }
 {
     if rest.len() > LINE_LIMIT {
-        return close_script(sink, Ending::LineTooLong(number));
+        return end_by_script(sink, Ending::LineTooLong(number));
     }
     match tail {
         Tail::End if rest.is_empty() => Status::Done,
         Tail::End => run_last_line(machine, rest, number, sink),
-        Tail::Fault => close_unread(sink),
-        Tail::Over => close_script(sink, Ending::ScriptTooLong(number)),
+        Tail::Fault => end_unread(sink),
+        Tail::Over => end_by_script(sink, Ending::ScriptTooLong(number)),
         Tail::More => unreachable!(),
     }
 }
@@ -75,21 +72,19 @@ fn run_taken<M: Machine, K: Sink>(
     tail: Tail,
     sink: &mut K,
 ) -> Status
-    requires numbers { length script.now < 2 ^ 32 }
+    requires size { length script.now ≤ SCRIPT_LIMIT }
     requires known { tail ≢ Tail.More }
-    requires goes_on { M.is_over machine.old ≡ false }
+    requires goes_on { (M.state machine.old).over ≡ false }
+    requires few { (M.state machine.old).steps < 2 ^ 61 }
     ensures { Ran result tail 1 script.now
-        (state_of (M.table machine.old) (M.is_over machine.old) (M.break_count machine.old)
-        (K.written sink.old) (K.faults sink.old))
-        (state_of (M.table machine.new) (M.is_over machine.new) (M.break_count machine.new)
-        (K.written sink.new) (K.faults sink.new)) }
+        (state_of (M.state machine.old) (K.state sink.old)) (state_of (M.state machine.new) (K.state sink.new)) }
 {
     match carry_out(machine, script, 1, sink) {
         Halt::Rest(at, number) => run_rest(machine, &script[at..], number, tail, sink),
-        Halt::Ended(ending) => close_script(sink, ending),
-        Halt::Broken(number) => close_broken(sink, number),
+        Halt::Ended(ending) => end_by_script(sink, ending),
+        Halt::Broken(number) => end_broken(sink, number),
         Halt::SinkFault => Status::WriteFault,
-        Halt::Memory => close_starved(sink),
+        Halt::Memory => end_starved(sink),
     }
 }
 
@@ -101,16 +96,14 @@ pub fn run<M: Machine, S: Source, K: Sink>(
     source: &mut S,
     sink: &mut K,
 ) -> Status
-    requires { M.is_over machine.old ≡ false }
-    ensures { Headline result (S.left source.old) (S.left source.new)
-        (S.faults source.old) (S.faults source.new)
-        (state_of (M.table machine.old) (M.is_over machine.old) (M.break_count machine.old)
-        (K.written sink.old) (K.faults sink.old))
-        (state_of (M.table machine.new) (M.is_over machine.new) (M.break_count machine.new)
-        (K.written sink.new) (K.faults sink.new)) }
+    requires goes_on { (M.state machine.old).over ≡ false }
+    requires few { (M.state machine.old).steps < 2 ^ 61 }
+    ensures { Headline result
+        (run_of (M.state machine.old) (S.state source.old) (K.state sink.old))
+        (run_of (M.state machine.new) (S.state source.new) (K.state sink.new)) }
 {
     match take_script(alloc, source) {
         Ok((script, tail)) => run_taken(machine, &script, tail, sink),
-        Err(_) => close_starved(sink),
+        Err(_) => end_starved(sink),
     }
 }

@@ -4,10 +4,7 @@ ghost use Rattle.zn_run.specs.Script.{Takes, TakesSome};
 
 use std::alloc::{AllocError, Global};
 use zn_base::Source;
-use zn_model::Tail;
-
-/// The most bytes of a script.
-const SCRIPT_LIMIT: usize = 16777216;
+use zn_lines::{SCRIPT_LIMIT, Tail};
 
 /// How many bytes are read at once.
 const CHUNK: usize = 65536;
@@ -20,10 +17,8 @@ fn take_in_chunks<S: Source>(
 ) -> Result<(Vec<u8>, Tail), AllocError>
     requires { 0 < length chunk.old }
     ensures { MatchResult result
-        (λ found. Takes (S.left source.old) (S.left source.new)
-        (S.faults source.old) (S.faults source.new) found.0.items found.1)
-        (λ _. TakesSome (S.left source.old) (S.left source.new)
-        (S.faults source.old) (S.faults source.new)) }
+        (λ found. Takes found.0.items found.1 (S.state source.old) (S.state source.new))
+        (λ _. TakesSome (S.state source.old) (S.state source.new)) }
 {
     let mut script = Vec::new(alloc);
     while script.len() <= SCRIPT_LIMIT {
@@ -41,10 +36,8 @@ fn take_in_chunks<S: Source>(
 /// Takes the bytes of a script, up to its limit, and says what comes after them.
 pub fn take_script<S: Source>(alloc: Global, source: &mut S) -> Result<(Vec<u8>, Tail), AllocError>
     ensures { MatchResult result
-        (λ found. Takes (S.left source.old) (S.left source.new)
-        (S.faults source.old) (S.faults source.new) found.0.items found.1)
-        (λ _. TakesSome (S.left source.old) (S.left source.new)
-        (S.faults source.old) (S.faults source.new)) }
+        (λ found. Takes found.0.items found.1 (S.state source.old) (S.state source.new))
+        (λ _. TakesSome (S.state source.old) (S.state source.new)) }
 {
     let mut chunk = vec![in alloc; 0; CHUNK]?;
     take_in_chunks(alloc, source, &mut chunk)

@@ -1,5 +1,5 @@
 ghost use Rattle.std.specs.Prelude.{[], true};
-ghost use Rattle.zn_model.specs.Session.{fresh_table};
+ghost use Rattle.zn_lines.specs.Table.{fresh_table};
 
 use crate::{Machine, Status, Step, run};
 use std::alloc::Global;
@@ -14,16 +14,24 @@ struct Probe<R> {
     rt: R,
     is_over: bool,
     breaks: u64,
+    steps: u64,
 }
 
 impl<R: Abort> Machine for Probe<R> {
-    ghost table = { λ _. fresh_table (record { told = true; shape = record { zone_blocks = 1; zone_capacity = 1; max_open = 0; max_active = 0 }; zones = [] }) [] };
-
-    ghost break_count = { λ m. m.breaks };
-
-    ghost is_over = { λ m. m.is_over };
+    ghost state = { λ m. record {
+      table = fresh_table (record {
+        told = true;
+        shape = record { zone_blocks = 1; zone_capacity = 1; max_open = 0; max_active = 0 };
+        zones = [];
+      }) [];
+      over = m.is_over;
+      breaks = m.breaks;
+      takes_memory = true;
+      steps = m.steps;
+    } };
 
     fn step<K: Sink>(&mut self, line: &[u8], sink: &mut K) -> Step {
+        self.steps += 1;
         if line.is_empty() {
             return Step::Done;
         }
@@ -80,6 +88,7 @@ fn ends_so<R: Abort + Copy>(
         rt,
         is_over: false,
         breaks: 0,
+        steps: 0,
     };
     let got = run(alloc, &mut machine, &mut source, &mut sink);
     assert_eq!(&rt; got, status, "{written}");

@@ -1,6 +1,6 @@
-use Rattle.std.proofs.Common.{◌≡◌, ◌≤◌, ◌-◌, ◌+◌, false, length}
-use Rattle.zn_run.specs.Progress.{Progress}
-use Rattle.zn_run.specs.State.{state_of}
+use Rattle.std.proofs.Common.{◌≤◌, ◌-◌, ◌+◌, length, take}
+use Rattle.zn_run.specs.Progress.{CarriedOut}
+use Rattle.zn_run.specs.States.{state_of}
 use Rattle.zn_run.proofs.lines.carry_out.Given as goal
 
 -- the lines before this place are carried out
@@ -8,11 +8,10 @@ abbrev pub invariant-loop-len : goal.invariant-loop-len
 invariant-loop-len g l = record {
   within : l.at ≤ length l.script;
   numbered : l.number ≤ l.first + l.at;
-  goes_on : g.M.Machine.is_over l.machine ≡ false;
-  progress : Progress
-      (state_of (g.M.Machine.table l.fn.machine) (g.M.Machine.is_over l.fn.machine) (g.M.Machine.break_count l.fn.machine) (g.K.Sink.written l.fn.sink) (g.K.Sink.faults l.fn.sink))
-      (state_of (g.M.Machine.table l.machine) (g.M.Machine.is_over l.machine) (g.M.Machine.break_count l.machine) (g.K.Sink.written l.sink) (g.K.Sink.faults l.sink))
-      l.first l.script l.at l.number;
+  lines : CarriedOut
+      (state_of (g.M.Machine.state l.fn.machine) (g.K.Sink.state l.fn.sink))
+      (state_of (g.M.Machine.state l.machine) (g.K.Sink.state l.sink))
+      l.first (take l.at l.script) l.number;
 }
 
 abbrev pub decreases-loop-len : goal.decreases-loop-len

@@ -5,13 +5,13 @@ pub returns-in-Done : goal.returns-in-Done
 returns-in-Done g c = last_done c.args.number c.requires.one c.requires.some c.requires.fits c.in-Done.ensures
 
 pub returns-in-BadLine : goal.returns-in-BadLine
-returns-in-BadLine g c = last_bad c.args.number c.requires.one c.requires.some c.requires.fits c.in-BadLine.ensures c.close_script.ensures
+returns-in-BadLine g c = last_bad c.args.number c.requires.goes_on c.requires.one c.requires.some c.requires.fits c.in-BadLine.ensures c.end_by_script.ensures
 
 pub returns-in-Broken : goal.returns-in-Broken
-returns-in-Broken g c = last_broken c.args.number c.requires.one c.requires.some c.requires.fits c.in-Broken.ensures c.close_broken.ensures
+returns-in-Broken g c = last_broken c.args.number c.requires.goes_on c.requires.one c.requires.some c.requires.fits c.in-Broken.ensures c.end_broken.ensures
 
 pub returns-in-SinkFault : goal.returns-in-SinkFault
-returns-in-SinkFault g c = last_cut c.args.number c.requires.one c.requires.some c.requires.fits c.in-SinkFault.ensures
+returns-in-SinkFault g c = last_cut c.args.number c.requires.goes_on c.requires.one c.requires.some c.requires.fits c.in-SinkFault.ensures
 
 pub returns-in-Memory : goal.returns-in-Memory
-returns-in-Memory g c = last_starved c.args.number c.args.line.now c.in-Memory.ensures c.close_starved.ensures
+returns-in-Memory g c = last_starved c.args.number c.requires.goes_on c.requires.one c.requires.some c.requires.fits c.in-Memory.ensures c.end_starved.ensures

@@ -1,22 +1,35 @@
-use Rattle.std.proofs.lemmas.List.{take_rest}
-use Rattle.zn_run.proofs.RanLaws.{ran_behind, ran_ended, ran_cut, ran_starved, ran_halted}
+use Rattle.std.proofs.Common.{◌≤◌, length, rules, sym, arith}
+use Rattle.std.proofs.lemmas.List.{take-append-drop, take_rest}
+use Rattle.zn_run.proofs.RanLaws.{ran_behind, ran_ended, ran_cut, ran_starved, ran_broken}
 use Rattle.zn_run.proofs.runs.run_taken.Goals as goal
 
+pub run_rest-requires-clause-few : goal.run_rest-requires-clause-few
+run_rest-requires-clause-few g c =
+    let h = c.in-Rest.ensures c.args.tail in omega (arith, c.requires.few, c.requires.size, h.within, h.numbered, h.lines.steps)
+
+pub slice_bounds-run_rest-count : goal.slice_bounds-run_rest-count
+slice_bounds-run_rest-count g c = (c.in-Rest.ensures c.args.tail).within
+
+pub slice_bounds-run_rest-start : goal.slice_bounds-run_rest-start
+slice_bounds-run_rest-start g c = let within : c.in-Rest.at ≤ length c.args.script.now = (c.in-Rest.ensures c.args.tail).within in search rules
+
+pub run_rest-requires-clause-one : goal.run_rest-requires-clause-one
+run_rest-requires-clause-one g c = rw take_rest (c.in-Rest.ensures c.args.tail).one
+
+pub run_rest-requires-clause-goes_on : goal.run_rest-requires-clause-goes_on
+run_rest-requires-clause-goes_on g c = (c.in-Rest.ensures c.args.tail).lines.goes_on
+
 pub returns-in-Rest : goal.returns-in-Rest
-returns-in-Rest g c = ran_behind _ c.in-Rest.ensures.progress (rw take_rest at c.run_rest.ensures)
+returns-in-Rest g c = ran_behind _ (sym (take-append-drop c.in-Rest.at c.args.script.now)) (c.in-Rest.ensures c.args.tail).lines (rw take_rest at c.run_rest.ensures)
 
 pub returns-in-Ended : goal.returns-in-Ended
-returns-in-Ended g c =
-    let h = c.in-Ended.ensures in
-    ran_ended c.in-Ended.ending h.reached h.is_fault (h.ends c.args.tail) h.table h.told h.counts.breaks h.counts.faults c.close_script.ensures
+returns-in-Ended g c = ran_ended (c.in-Ended.ensures c.args.tail) c.end_by_script.ensures
 
 pub returns-in-Broken : goal.returns-in-Broken
-returns-in-Broken g c = ran_halted c.args.tail c.in-Broken.ensures c.close_broken.ensures
+returns-in-Broken g c = ran_broken (c.in-Broken.ensures c.args.tail) c.end_broken.ensures
 
 pub returns-in-SinkFault : goal.returns-in-SinkFault
-returns-in-SinkFault g c =
-    let h = c.in-SinkFault.ensures in ran_cut h.reached h.line h.front (h.next c.args.tail) h.is_front h.told h.breaks h.risen
+returns-in-SinkFault g c = ran_cut (c.in-SinkFault.ensures c.args.tail)
 
 pub returns-in-Memory : goal.returns-in-Memory
-returns-in-Memory g c =
-    let h = c.in-Memory.ensures in ran_starved h.reached h.told h.counts.breaks h.counts.faults c.close_starved.ensures
+returns-in-Memory g c = ran_starved (c.in-Memory.ensures c.args.tail) c.end_starved.ensures

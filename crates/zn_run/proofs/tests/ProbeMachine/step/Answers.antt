@@ -20,7 +20,7 @@ returns-in-Err g c =
     is_cut c.args.line.now (same_text _ _ (c.if-eq-2.ensures) ∙ c.as_slice-2.ensures) refl refl c.in-Err.ensures.front (record { later = c.in-Err.ensures.cause.later; rose = c.in-Err.ensures.cause.failed })
 
 pub returns-then-eq-3 : goal.returns-then-eq-3
-returns-then-eq-3 g c = breaks_down c.args.line.now (same_text _ _ (c.if-eq-3.ensures) ∙ c.as_slice-3.ensures) (omega arith) c.saturating_add-self.ensures
+returns-then-eq-3 g c = breaks_down c.args.line.now (same_text _ _ (c.if-eq-3.ensures) ∙ c.as_slice-3.ensures) refl (omega arith) c.saturating_add-self.ensures
 
 pub returns-then-eq-4 : goal.returns-then-eq-4
 returns-then-eq-4 g c = starves c.args.line.now (same_text _ _ (c.if-eq-4.ensures) ∙ c.as_slice-4.ensures)
