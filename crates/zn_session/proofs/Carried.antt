@@ -1,105 +1,233 @@
 -- What a line does to a session, with what its end does.
-use Rattle.std.proofs.Common.{◌≡◌, ℕ, Bool, true, false, List, Option, Some, Ok, refl, sym, ap, ◌∙◌, subst}
-use Rattle.std.specs.Prelude.{codes, not}
-use Rattle.zn_base.specs.Told.{Grew, GrewToward}
-use Rattle.zn_truth.specs.World.{World}
+use Rattle.std.proofs.Common.{◌≡◌, ◌≤◌, ◌+◌, ℕ, Bool, true, false, List, Option, Some, Result, Ok, Err, refl, sym, ap, ◌∙◌, subst, inl, inr, eqb, eqb-true, arith}
+use Rattle.std.specs.Prelude.{not, ◌⊎◌, IsErrOf}
+use Rattle.std.proofs.lemmas.Bool.{false≢true, not-true, not-false, eqb-false}
+use Rattle.zn_base.specs.States.{SinkState}
+use Rattle.zn_truth.specs.World.{geometry_of}
+use Rattle.zn_device.specs.States.{DeviceState}
+use Rattle.zn_model.specs.declared.answers.Refusal.{Refusal}
+use Rattle.zn_model.specs.declared.answers.Refusal.TheVariants.{Broken as HasBroken, Memory as Starved}
 use Rattle.zn_model.specs.declared.handles.Handle.{Handle}
-use Rattle.zn_model.specs.Lines as lines
-use Rattle.zn_model.specs.ReplyTexts.{error_text}
-use Rattle.zn_model.specs.Session.{Stepped, line_now, line_step, says, dropped_unless}
-use Rattle.zn_model.specs.Table.{Mounted}
-use Rattle.zn_run.specs.State.{State, state_of}
-use Rattle.zn_run.specs.Steps.{StepMeans}
-use Rattle.zn_run.specs.declared.session.Step.{Step}
-use Rattle.zn_run.specs.declared.session.Step.TheVariants.{Done, BadLine, Broken, SinkFault, Memory}
-use Rattle.zn_script.specs.Meant.{line_meant}
-use Rattle.zn_script.specs.declared.Line.{Line}
-use Rattle.zn_script.specs.declared.Line.TheVariants.{Open, Close, Size, Read, Write, Stat, List as Listing, Change}
-use Rattle.zn_volume.specs.Seen as volume
+use Rattle.zn_lines.specs.Lines.{Line}
+use Rattle.zn_lines.specs.Memory.{takes_itself}
+use Rattle.zn_lines.specs.Session as session
+use Rattle.zn_lines.specs.Table.{Table}
+use Rattle.zn_lines.specs.Session.{line_now, line_step, says, dropped_unless}
+use Rattle.zn_run.specs.States.{State, state_of, HasRisen, Added, CutOff}
+use Rattle.zn_run.specs.Steps.{MayStarve, StepMeans, Stepped}
+use Rattle.zn_run.specs.declared.machine.Step.{Step}
+use Rattle.zn_run.specs.declared.machine.Step.TheVariants.{Done, BadLine, Broken, SinkFault, Memory}
+use Rattle.zn_volume.specs.Means.{spoils}
 use Rattle.zn_session.specs.Replies.{text_of}
-use Rattle.zn_session.specs.Seen.{Seen, seen_of, table_of, bare_table, table_by, table_in}
-use Rattle.zn_session.specs.Steps.{ends, stops, Answers, Said}
+use Rattle.zn_session.specs.SessionState.{HeldState, SessionState, session_of, table_by, table_in, machine_of}
+use Rattle.zn_session.specs.Steps.{ends, told_by, ended_by, stops, LineCause, Means, Dropped, Said, Performed}
 use Rattle.zn_session.specs.declared.replies.Reply.{Reply}
-
-pub not_over : {over : Bool} → not over ≡ true → over ≡ false
-not_over {over = true} goes = absurd (cc goes)
-not_over {over = false} goes = refl
 
 -- ---- the end of a line
 
-dropped_bare : (powered : Bool) (w : World) (text : List ℕ) → says text (dropped_unless powered (bare_table w)) ≡ says text (bare_table w)
-dropped_bare true w text = refl
-dropped_bare false w text = refl
+-- a line that ends the run
+pub ends_at_once : (line : Line) (reply : Reply) (buffer entropy : List ℕ) (old new : HeldState) (numbers0 numbers : List (Option Handle)) → ends reply ≡ true → Means line_now line reply buffer entropy old new numbers0 numbers
+    → Means line_step line reply buffer entropy old new numbers0 numbers
+ends_at_once line reply buffer entropy old new numbers0 numbers stopped means = record {
+  given = means.given;
+  writable = means.writable;
+  step = λ goes. absurd (false≢true (sym goes ∙ stopped));
+  numbered = means.numbered;
+  opened = means.opened;
+  cause = means.cause;
+}
 
-bare_step : (line : Line) (w : World) → line_step (bare_table w) (line_meant line) ≡ says (error_text (codes "not-mounted")) (bare_table w)
-unfolding line_step line_now
-bare_step (Open n path mode) w = dropped_bare w.powered w (error_text (codes "not-mounted"))
-bare_step (Close n) w = dropped_bare w.powered w (error_text (codes "not-mounted"))
-bare_step (Size n) w = dropped_bare w.powered w (error_text (codes "not-mounted"))
-bare_step (Read n offset len) w = dropped_bare w.powered w (error_text (codes "not-mounted"))
-bare_step (Write n offset word) w = dropped_bare w.powered w (error_text (codes "not-mounted"))
-bare_step (Stat path) w = dropped_bare w.powered w (error_text (codes "not-mounted"))
-bare_step (Listing path) w = dropped_bare w.powered w (error_text (codes "not-mounted"))
-bare_step (Change change) w = dropped_bare w.powered w (error_text (codes "not-mounted"))
-
-dropped_mounted : (powered : Bool) (m : Mounted) (numbers : List (Option Handle)) (text : List ℕ) → says text (dropped_unless powered (table_of m numbers)) ≡ says text (table_by powered m numbers)
-dropped_mounted true m numbers text = refl
-dropped_mounted false m numbers text = refl
-
-mounted_step : (m after : Mounted) (numbers numbers' : List (Option Handle)) (line : lines.Line) (text : List ℕ) → line_now (table_of m numbers) line ≡ says text (table_of after numbers')
-    → line_step (table_of m numbers) line ≡ says text (table_by after.world.powered after numbers')
+step_by : (given : List ℕ) (table0 : Table) (line : Line) (text : List ℕ) (table : Table) → line_now given table0 line ≡ says text table → line_step given table0 line ≡ says text (dropped_unless table.world.powered table)
 unfolding line_step
-mounted_step m after numbers numbers' line text e = ap (λ (s : Stepped). says s.text (dropped_unless s.table.world.powered s.table)) e ∙ dropped_mounted after.world.powered after numbers' text
+step_by given table0 line text table is = ap (λ (s : session.Stepped). says s.text (dropped_unless s.table.world.powered s.table)) is
+
+-- a line that goes on
+pub ends_dropped : (line : Line) (reply : Reply) (buffer entropy : List ℕ) (old mid new : HeldState) (numbers0 numbers1 numbers : List (Option Handle)) → ends reply ≡ false → Means line_now line reply buffer entropy old mid numbers0 numbers1 → Dropped mid new numbers1 numbers
+    → Means line_step line reply buffer entropy old new numbers0 numbers
+ends_dropped line reply buffer entropy old mid new numbers0 numbers1 numbers goes means dropped =
+    let Causes : DeviceState → Type 0 = λ d. LineCause (takes_itself line) (told_by reply) old.device d in
+    record {
+      given = means.given;
+      writable = means.writable;
+      step = λ _.
+          step_by means.given (table_by entropy old numbers0) line (text_of reply buffer) (table_by entropy mid numbers1) (means.step goes)
+          ∙ ap (says (text_of reply buffer)) (sym (dropped.table entropy));
+      numbered = λ _. dropped.numbered;
+      opened = λ _. omega (arith, means.opened goes, dropped.opened);
+      cause = subst Causes (sym dropped.device) means.cause;
+    }
 
 -- ---- what a line means
 
-carried : (step : Step) (line : lines.Line) (text : List ℕ) (old new : State) → line_step old.table line ≡ says text new.table → Said step text old.told new.told old.faults new.faults → new.breaks ≡ old.breaks → new.over ≡ stops step
-    → StepMeans step (Ok (Some line)) old new
-carried Done line text old new steps said breaks over = record {
+carried : (given : List ℕ) (step : Step) (line : Line) (text : List ℕ) (old new : State) → line_step given old.machine.table line ≡ says text new.machine.table → Said step text old.sink new.sink
+    → new.machine.breaks ≡ old.machine.breaks → new.machine.over ≡ stops step → StepMeans step (Ok (Some line)) old new
+carried given Done line text old new steps said breaks over = record {
   means = record {
-    table = sym (ap (λ (s : Stepped). s.table) steps);
-    told = subst (λ (due : List ℕ). Grew old.told new.told due) (sym (ap (λ (s : Stepped). s.text) steps)) said.means.0;
-    counts = record { breaks = breaks; faults = said.means.1 };
+    given = given;
+    table = sym (ap (λ (s : session.Stepped). s.table) steps);
+    breaks = breaks;
+    reply = subst (λ (due : List ℕ). Added due old.sink new.sink) (sym (ap (λ (s : session.Stepped). s.text) steps)) said.means;
   };
   goes_on = over;
 }
-carried (BadLine column) line text old new steps said breaks over = absurd said.means
-carried Broken line text old new steps said breaks over = absurd said.means
-carried SinkFault line text old new steps said breaks over = record {
+carried given (BadLine column) line text old new steps said breaks over = absurd said.means
+carried given Broken line text old new steps said breaks over = absurd said.means
+carried given SinkFault line text old new steps said breaks over = record {
   line = line;
   reads = refl;
-  toward = subst (λ (due : List ℕ). GrewToward old.told new.told due) (sym (ap (λ (s : Stepped). s.text) steps)) said.means.0;
+  given = given;
+  table = sym (ap (λ (s : session.Stepped). s.table) steps);
   breaks = breaks;
-  risen = said.means.1;
+  reply = subst (λ (due : List ℕ). CutOff due old.sink new.sink) (sym (ap (λ (s : session.Stepped). s.text) steps)) said.means;
   over = over;
 }
-carried Memory line text old new steps said breaks over = absurd said.means
+carried given Memory line text old new steps said breaks over = absurd said.means
 
--- the table of a session that is mounted, and that of one that is not
-pub table_mounted : (seen : Seen) (v : volume.Seen) (is_mounted over : Bool) (numbers : List (Option Handle)) → seen_of v is_mounted numbers over ≡ seen → seen.is_mounted ≡ true → table_in seen ≡ table_of v.mounted numbers
-table_mounted seen v is_mounted over numbers view mounted = sym (ap table_in view) ∙ ap (λ b. table_by b v.mounted numbers) (ap (λ (s : Seen). s.is_mounted) view ∙ mounted)
+-- ---- the end of a run
 
-table_bare : (seen : Seen) (v : volume.Seen) (is_mounted over : Bool) (numbers : List (Option Handle)) → seen_of v is_mounted numbers over ≡ seen → seen.is_mounted ≡ false → table_in seen ≡ bare_table v.mounted.world
-table_bare seen v is_mounted over numbers view bare = sym (ap table_in view) ∙ ap (λ b. table_by b v.mounted numbers) (ap (λ (s : Seen). s.is_mounted) view ∙ bare)
+-- an answer that ends a run tells a break, or want of memory
+pub spoiling_is : (answer : Result (Unit {0}) Refusal) → spoils answer ≡ true → IsErrOf answer HasBroken ⊎ IsErrOf answer Starved
+spoiling_is (Ok unit) spoiling = absurd (false≢true spoiling)
+spoiling_is (Err HasBroken) spoiling = inl refl
+spoiling_is (Err Starved) spoiling = inr refl
+spoiling_is (Err _) spoiling = absurd (false≢true spoiling)
 
-module _ (seen : Seen) (v : volume.Seen) (is_mounted over : Bool) (numbers : List (Option Handle)) (view : seen_of v is_mounted numbers over ≡ seen) (step : Step) (told0 told : Option (List ℕ)) (before now : ℕ) where
-  pub bare_means : (line : Line) (over' : Bool) → seen.is_mounted ≡ false → Said step (error_text (codes "not-mounted")) told0 told before now → over' ≡ stops step
-      → StepMeans step (Ok (Some (line_meant line))) (state_of (table_in seen) seen.over seen.breaks told0 before) (state_of (table_by is_mounted v.mounted numbers) over' v.breaks told now)
-  bare_means line over' bare said ended =
-      let same = table_bare seen v is_mounted over numbers view bare in
-      let steps : line_step (table_in seen) (line_meant line) ≡ says (error_text (codes "not-mounted")) (table_by is_mounted v.mounted numbers) =
-      ap (λ table. line_step table (line_meant line)) same ∙ bare_step line v.mounted.world ∙ ap (says (error_text (codes "not-mounted"))) (sym same ∙ sym (ap table_in view)) in
-      carried step (line_meant line) (error_text (codes "not-mounted")) (state_of (table_in seen) seen.over seen.breaks told0 before) (state_of (table_by is_mounted v.mounted numbers) over' v.breaks told now)
-      steps said (ap (λ (s : Seen). s.breaks) view) ended
+-- where the count of breaks is another one, it has risen
+risen_apart : (before now : ℕ) → before ≤ now → not (eqb now before) ≡ true → HasRisen before now
+risen_apart before now later differs = let apart = eqb-false now before (not-true _ differs) in record { later = later; rose = omega (arith, apart) }
 
-  pub mounted_means : (line : lines.Line) (reply : Reply) (buffer shown : List ℕ) (v' : volume.Seen) (numbers' : List (Option Handle)) (powered over' : Bool) → seen.is_mounted ≡ true → Answers line reply buffer v v' numbers numbers' → ends reply ≡ false
-      → powered ≡ v'.mounted.world.powered → shown ≡ buffer → Said step (text_of reply shown) told0 told before now → over' ≡ stops step
-      → StepMeans step (Ok (Some line)) (state_of (table_in seen) seen.over seen.breaks told0 before) (state_of (table_by powered v'.mounted numbers') over' v'.breaks told now)
-  mounted_means line reply buffer shown v' numbers' powered over' mounted answers goes is_powered same_buffer said ended =
-      let text : List ℕ = text_of reply shown in
-      let steps : line_step (table_in seen) line ≡ says text (table_by powered v'.mounted numbers') =
-      ap (λ table. line_step table line) (table_mounted seen v is_mounted over numbers view mounted)
-      ∙ mounted_step v.mounted v'.mounted numbers numbers' line text (answers.step goes ∙ ap (λ bytes. says (text_of reply bytes) (table_of v'.mounted numbers')) (sym same_buffer))
-      ∙ ap (λ b. says text (table_by b v'.mounted numbers')) (sym is_powered) in
-      carried step line text (state_of (table_in seen) seen.over seen.breaks told0 before) (state_of (table_by powered v'.mounted numbers') over' v'.breaks told now)
-      steps said (answers.whole goes ∙ ap (λ (s : Seen). s.breaks) view) ended
+-- a flag, and that it isn't so
+not_back : (over goes_on : Bool) → goes_on ≡ not over → over ≡ not goes_on
+not_back true goes_on same = ap not (sym same)
+not_back false goes_on same = ap not (sym same)
+
+not_over : (over goes_on : Bool) → goes_on ≡ not over → goes_on ≡ true → over ≡ false
+not_over true goes_on same goes = absurd (false≢true (sym same ∙ goes))
+not_over false goes_on same goes = refl
+
+is_over : (over goes_on : Bool) → goes_on ≡ not over → goes_on ≡ false → over ≡ true
+is_over true goes_on same stopped = refl
+is_over false goes_on same stopped = absurd (false≢true (sym stopped ∙ same))
+
+-- a session, as its parts are
+module _ (seen : SessionState) (held : HeldState) (numbers : List (Option Handle)) (entropy : List ℕ) (over : Bool) (steps : ℕ) (view : session_of held numbers entropy over steps ≡ seen) where
+  same_held : held ≡ seen.held
+  same_held = ap (λ (s : SessionState). s.held) view
+
+  same_table : table_by entropy held numbers ≡ table_in seen
+  same_table = ap table_in view
+
+  same_device : held.device ≡ seen.held.device
+  same_device = ap (λ (h : HeldState). h.device) same_held
+
+  same_breaks : held.device.breaks ≡ seen.held.device.breaks
+  same_breaks = ap (λ (d : DeviceState). d.breaks) same_device
+
+  same_takes : held.device.takes_memory ≡ seen.held.device.takes_memory
+  same_takes = ap (λ (d : DeviceState). d.takes_memory) same_device
+
+  -- the session after a line
+  abbrev after : HeldState → List (Option Handle) → Bool → SessionState
+  after held' numbers' over' = session_of held' numbers' entropy over' (steps + 1)
+
+  -- a line that is one more, whatever became of it
+  counted : {step : Step} {line : Line} (held' : HeldState) (numbers' : List (Option Handle)) (over' : Bool) (sink0 sink : SinkState) → held'.device.takes_memory ≡ held.device.takes_memory
+      → StepMeans step (Ok (Some line)) (state_of (machine_of seen) sink0) (state_of (machine_of (after held' numbers' over')) sink)
+      → Stepped step (Ok (Some line)) (state_of (machine_of seen) sink0) (state_of (machine_of (after held' numbers' over')) sink)
+  counted held' numbers' over' sink0 sink memory means = record {
+    means = means;
+    counted = ap (λ (s : SessionState). s.steps + 1) view;
+    memory = memory ∙ same_takes;
+  }
+
+  module _ (line : Line) (reply : Reply) (buffer : List ℕ) (held' : HeldState) (numbers' : List (Option Handle)) (means : Means line_step line reply buffer entropy held held' numbers numbers') where
+    -- what the line does to the table
+    does : ends reply ≡ false → line_step means.given (table_in seen) line ≡ says (text_of reply buffer) (table_by entropy held' numbers')
+    does goes = ap (λ table. line_step means.given table line) (sym same_table) ∙ means.step goes
+
+    -- a line whose reply is written, or cut off
+    pub goes_means : (step : Step) (shown : List ℕ) (over' : Bool) (sink0 sink : SinkState) → ends reply ≡ false → shown ≡ buffer → Said step (text_of reply shown) sink0 sink → over' ≡ stops step
+        → Stepped step (Ok (Some line)) (state_of (machine_of seen) sink0) (state_of (machine_of (after held' numbers' over')) sink)
+    goes_means step shown over' sink0 sink goes same_buffer said ended =
+        let Says : List ℕ → Type 0 = λ bytes. Said step (text_of reply bytes) sink0 sink in
+        counted held' numbers' over' sink0 sink means.cause.memory
+        (carried means.given step line (text_of reply buffer) (state_of (machine_of seen) sink0) (state_of (machine_of (after held' numbers' over')) sink)
+        (does goes) (subst Says same_buffer said) (means.cause.whole goes ∙ same_breaks) ended)
+
+    module _ (spoiling : ends reply ≡ true) where
+      -- over a device whose commands take no memory, where the count of breaks is another one, a break is told
+      is_broken : not (eqb held'.device.breaks held.device.breaks) ≡ true → held.device.takes_memory ≡ false → IsErrOf (told_by reply) HasBroken
+      is_broken differs none = elim (spoiling_is (told_by reply) spoiling) [
+        | inl broken ↦ broken
+        | inr starved ↦ elim (means.cause.starved starved) [
+          | inl same ↦ absurd (eqb-false held'.device.breaks held.device.breaks (not-true _ differs) (ap (λ (d : DeviceState). d.breaks) same))
+          | inr some ↦ absurd (false≢true (sym none ∙ some))
+        ]
+      ]
+
+      broken_means : (sink : SinkState) → (held.device.takes_memory ≡ false → IsErrOf (told_by reply) HasBroken) → HasRisen held.device.breaks held'.device.breaks
+          → StepMeans Broken (Ok (Some line)) (state_of (machine_of seen) sink) (state_of (machine_of (after held' numbers' true)) sink)
+      broken_means sink broken risen =
+          let told : seen.held.device.takes_memory ≡ false → IsErrOf (told_by reply) HasBroken = λ none. broken (same_takes ∙ none) in
+          record {
+            line = line;
+            reads = refl;
+            risen = subst (λ (d : DeviceState). HasRisen d.breaks held'.device.breaks) same_device risen;
+            leaves = record {
+              geometry = means.cause.geometry spoiling ∙ ap (λ (d : DeviceState). geometry_of d.world) same_device;
+              powered = λ none. ap (λ (d : DeviceState). d.world.powered) (sym same_device) ∙ means.cause.powered (told none);
+              still_powered = λ none. means.cause.still_powered (told none);
+            };
+            sink = refl;
+            over = refl;
+          }
+
+      -- where memory may be wanting
+      may_starve : IsErrOf (told_by reply) Starved → MayStarve seen.held.device.takes_memory line
+      may_starve told = elim (means.cause.takes told) [ inl some ↦ inl (sym same_takes ∙ some) | inr itself ↦ inr itself ]
+
+      starved_means : (sink : SinkState) → IsErrOf (told_by reply) Starved → held'.device.breaks ≡ held.device.breaks → StepMeans Memory (Ok (Some line)) (state_of (machine_of seen) sink) (state_of (machine_of (after held' numbers' true)) sink)
+      starved_means sink told kept = record {
+        line = line;
+        reads = refl;
+        takes = may_starve told;
+        breaks = kept ∙ same_breaks;
+        sink = refl;
+        over = refl;
+      }
+
+      ended : (sink : SinkState) (has_failed : Bool) → has_failed ≡ not (eqb held'.device.breaks held.device.breaks)
+          → StepMeans (ended_by has_failed (told_by reply)) (Ok (Some line)) (state_of (machine_of seen) sink) (state_of (machine_of (after held' numbers' true)) sink)
+      ended sink true same = broken_means sink (is_broken (sym same)) (risen_apart held.device.breaks held'.device.breaks means.cause.no_fewer (sym same))
+      ended sink false same =
+          let P : Result (Unit {0}) Refusal → Type 0 = λ told. StepMeans (ended_by false told) (Ok (Some line)) (state_of (machine_of seen) sink) (state_of (machine_of (after held' numbers' true)) sink) in
+          elim (spoiling_is (told_by reply) spoiling) [
+            | inl is ↦ subst P (sym is) (broken_means sink (λ none. is) (record { later = means.cause.no_fewer; rose = means.cause.broken is }))
+            | inr is ↦ subst P (sym is) (starved_means sink is (eqb-true _ _ (not-false _ (sym same))))
+          ]
+
+      -- a line that ends the run
+      pub ended_means : (step : Step) (sink : SinkState) (has_failed : Bool) → step ≡ ended_by has_failed (told_by reply) → has_failed ≡ not (eqb held'.device.breaks held.device.breaks)
+          → Stepped step (Ok (Some line)) (state_of (machine_of seen) sink) (state_of (machine_of (after held' numbers' true)) sink)
+      ended_means step sink has_failed is failed =
+          let P : Step → Type 0 = λ s. StepMeans s (Ok (Some line)) (state_of (machine_of seen) sink) (state_of (machine_of (after held' numbers' true)) sink) in
+          counted held' numbers' true sink sink means.cause.memory (subst P (sym is) (ended sink has_failed failed))
+
+    -- a line whose reply isn't written, and that ends the run
+    stopped_by : ends reply ≡ true → HasRisen seen.held.device.breaks held'.device.breaks ⊎ MayStarve seen.held.device.takes_memory line
+    stopped_by spoiling = elim (spoiling_is (told_by reply) spoiling) [
+      | inl is ↦ inl (subst (λ (d : DeviceState). HasRisen d.breaks held'.device.breaks) same_device (record { later = means.cause.no_fewer; rose = means.cause.broken is }))
+      | inr is ↦ inr (may_starve spoiling is)
+    ]
+
+    -- a line whose reply isn't written
+    pub performs : (over' goes_on : Bool) → over' ≡ ends reply → goes_on ≡ not over' → Performed goes_on line seen (after held' numbers' over')
+    performs over' goes_on is same = record {
+      over = not_back over' goes_on same;
+      counted = ap (λ (s : SessionState). s.steps + 1) view;
+      given = means.given;
+      table = λ goes. sym (ap (λ (s : session.Stepped). s.table) (does (sym is ∙ not_over over' goes_on same goes)));
+      breaks = λ goes. means.cause.whole (sym is ∙ not_over over' goes_on same goes) ∙ same_breaks;
+      memory = means.cause.memory ∙ same_takes;
+      ended = λ stopped. stopped_by (sym is ∙ is_over over' goes_on same stopped);
+    }

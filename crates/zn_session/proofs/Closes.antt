@@ -8,41 +8,40 @@ use Rattle.zn_truth.specs.declared.DevError.TheVariants.{ReadOnly, Offline, Unal
 use Rattle.zn_truth.specs.declared.ZoneOp.TheVariants.{Close}
 use Rattle.zn_truth.specs.Orders.{Manage, Reply}
 use Rattle.zn_truth.specs.World.{issue}
+use Rattle.zn_truth.proofs.SoundIssue.{if_keeps}
 use Rattle.zn_model.specs.declared.answers.Refusal.{Refusal}
 use Rattle.zn_model.specs.declared.answers.Refusal.TheVariants.{PowerLost, Busy}
 use Rattle.zn_model.specs.declared.handles.Handle.{Handle}
 use Rattle.zn_model.specs.Access.{writes}
-use Rattle.zn_model.specs.Table.{Live, Handles, Mounted, file_at, shown_at, live_at, is_same_handle, is_queued_through, writers_of, without_live}
+use Rattle.zn_model.specs.Volume.{Live, Handles, Mounted, file_at, shown_at, live_at, is_same_handle, is_queued_through, writers_of, without_live}
 use Rattle.zn_model.specs.CallAnswers.{Answer, answered, refused}
 use Rattle.zn_model.specs.Recovery.{Finding, is_passed_on, refusal_of, told_after, finding_of, failed_by, after_failure}
 use Rattle.zn_model.specs.OpenClose.{after_close, ended, unheld, close_now, close_by, close_call}
 use Rattle.zn_model.specs.Keys.{unkeyed_handle, IsUsedOnce}
-use Rattle.zn_model.specs.Lines.{CloseFile}
-use Rattle.zn_model.specs.ReplyTexts.{refusal_name, reply_text, plain}
-use Rattle.zn_model.specs.Session.{Table, line_now, says, close_line, freed_by, is_busy, without_number, with_mounted}
+use Rattle.zn_lines.specs.Lines.{CloseFile}
+use Rattle.zn_lines.specs.ReplyTexts.{refusal_name, reply_text, plain}
+use Rattle.zn_lines.specs.Table.{Table, without_number, with_mounted}
+use Rattle.zn_lines.specs.Session.{line_now, says, close_line, freed_by, is_busy}
 use Rattle.zn_model.proofs.KeysHandles.{same_handle}
 use Rattle.zn_model.proofs.KeysLists.{passes-find}
 use Rattle.zn_model.proofs.KeysKept.{failure_keeps}
 use Rattle.zn_model.proofs.KeysUsed.{still_live}
 use Rattle.zn_model.proofs.KeysOpens.{close_unkeyed}
-use Rattle.zn_session.specs.Seen.{table_of, number_at, IsNumbered}
+use Rattle.zn_session.specs.SessionState.{table_of, number_at, IsNumbered}
 use Rattle.zn_session.specs.Steps.{is_busy_answer}
 use Rattle.zn_session.proofs.Numbers.{on_number}
 use Rattle.zn_session.proofs.LineSteps.{live_of}
 
 -- ---- the handles
 
--- A close ends no other handle, and none where the file is busy.
+-- A close opens no handle and ends no other, and none where the file is busy.
 pub record Closed (m : Mounted) (h : Handle) (answer : Answer (Unit {0})) : Type 0 where
   pub others : (other : Handle) → is_same_handle other h ≡ false → IsSome (live_at m.volume.handles other) → IsSome (live_at answer.mounted.volume.handles other)
+  pub opened : answer.mounted.volume.handles.opened ≡ m.volume.handles.opened
   pub busy : is_busy_answer answer.reply ≡ true → answer.mounted.volume.handles ≡ m.volume.handles
 
 closed_still : (m : Mounted) (h : Handle) (refusal : Refusal) → Closed m h (refused refusal m)
-closed_still m h refusal = record { others = λ other differs some. some; busy = λ _. refl }
-
-chosen : (P : Answer (Unit {0}) → Type 0) (b : Bool) (one other : Answer (Unit {0})) → P one → P other → P (if b then one else other)
-chosen P true one other holds holds' = holds
-chosen P false one other holds holds' = holds'
+closed_still m h refusal = record { others = λ other differs some. some; opened = refl; busy = λ _. refl }
 
 never_busy : (error : DevError) → is_busy (refusal_of error) ≡ false
 never_busy ReadOnly = refl
@@ -73,10 +72,12 @@ module _ (m : Mounted) (h : Handle) where
   after_closed : (reply : Reply) (after : Mounted) (f : ℕ) → after.volume.handles ≡ without_live m.volume.handles h → Closed m h (after_close reply after f)
   after_closed (Ok unit) after f same = record {
     others = λ other differs some. subst (λ (handles : Handles). IsSome (live_at handles other)) (sym same) (still_live m.volume.handles h other differs some);
+    opened = ap (λ (handles : Handles). handles.opened) same;
     busy = λ is. absurd (false≢true is);
   }
   after_closed (Err error) after f same = record {
     others = λ other differs some. subst (λ (handles : Handles). IsSome (live_at handles other)) (sym ((failure_keeps false error after f).handles ∙ same)) (still_live m.volume.handles h other differs some);
+    opened = ap (λ (handles : Handles). handles.opened) ((failure_keeps false error after f).handles ∙ same);
     busy = λ is. absurd (false≢true (sym (failure_not_busy error after f) ∙ is));
   }
 
@@ -86,11 +87,11 @@ close_now_closed m live =
     let done = issue m.world (Manage (file_at m.volume.inodes live.file).first Close) in
     let after = ended m live.handle in
     let closed = record (unheld after live.file) { world = done.world } in
-    chosen (Closed m live.handle) (writes live.mode && (writers_of after.volume.handles live.file == 0) && (shown_at m.volume.inodes live.file).held_open) (after_close done.reply closed live.file) (answered tt after)
+    if_keeps (Closed m live.handle) (writes live.mode && (writers_of after.volume.handles live.file == 0) && (shown_at m.volume.inodes live.file).held_open) (after_close done.reply closed live.file) (answered tt after)
     (after_closed m live.handle done.reply closed live.file refl) (after_closed m live.handle (Ok tt) after live.file refl)
 
 close_live_closed : (m : Mounted) (live : Live) → Closed m live.handle (close_by (Some live) m)
-close_live_closed m live = chosen (Closed m live.handle) (is_queued_through m.volume.queue live.handle) (refused Busy m) (close_now m live) (closed_still m live.handle Busy) (close_now_closed m live)
+close_live_closed m live = if_keeps (Closed m live.handle) (is_queued_through m.volume.queue live.handle) (refused Busy m) (close_now m live) (closed_still m live.handle Busy) (close_now_closed m live)
 
 close_by_closed : (m : Mounted) (h : Handle) (found : Option Live) → live_at m.volume.handles h ≡ found → Closed m h (close_by found m)
 close_by_closed m h None e = closed_still m h _
@@ -99,7 +100,7 @@ close_by_closed m h (Some live) e =
 
 pub close_closed : (m : Mounted) (h : Handle) → Closed m h (close_call m h)
 unfolding close_call
-close_closed m h = chosen (Closed m h) m.world.powered (close_by (live_at m.volume.handles h) m) (refused PowerLost m) (close_by_closed m h (live_at m.volume.handles h) refl) (closed_still m h PowerLost)
+close_closed m h = if_keeps (Closed m h) m.world.powered (close_by (live_at m.volume.handles h) m) (refused PowerLost m) (close_by_closed m h (live_at m.volume.handles h) refl) (closed_still m h PowerLost)
 
 -- ---- the numbers
 
@@ -162,10 +163,10 @@ freed_is : (reply : Result (Unit {0}) Refusal) (m : Mounted) (numbers : List (Op
 freed_is (Ok unit) m numbers n = without_is m numbers n
 freed_is (Err refusal) m numbers n = freed_if (is_busy refusal) m numbers n
 
-pub close_step : (m : Mounted) (numbers : List (Option Handle)) (n : ℕ) (h : Handle) → IsNumbered m numbers → number_at numbers n ≡ Some h
-    → line_now (table_of m numbers) (CloseFile n) ≡ says (reply_text plain refusal_name (close_call m h).reply) (table_of (close_call m h).mounted (numbers_after (is_busy_answer (close_call m h).reply) numbers n))
+pub close_step : (given : List ℕ) (m : Mounted) (numbers : List (Option Handle)) (n : ℕ) (h : Handle) → IsNumbered m numbers → number_at numbers n ≡ Some h
+    → line_now given (table_of m numbers) (CloseFile n) ≡ says (reply_text plain refusal_name (close_call m h).reply) (table_of (close_call m h).mounted (numbers_after (is_busy_answer (close_call m h).reply) numbers n))
 unfolding line_now
-close_step m numbers n h is e =
+close_step given m numbers n h is e =
     let live = live_of (is.live n h e) in
     let table = table_of m numbers in
     on_number m numbers n h (close_line table n) e

@@ -6,4 +6,10 @@ pub mod Listings
 pub mod Opens
 pub mod Closes
 pub mod Opening
+pub mod LineCauses
+pub mod Meanings
+pub mod Formatted
+pub mod MountLines
+pub mod HeldCases
 pub mod Carried
+pub mod Fronts

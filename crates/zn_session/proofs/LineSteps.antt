@@ -3,20 +3,21 @@ use Rattle.std.proofs.Common.{◌≡◌, ℕ, Bool, true, false, List, Option, S
 use Rattle.std.specs.Prelude.{IsSome, codes, if◌then◌else◌}
 use Rattle.zn_model.specs.declared.answers.Refusal.TheVariants.{PowerLost}
 use Rattle.zn_model.specs.declared.handles.Handle.{Handle}
-use Rattle.zn_model.specs.Table.{Live, Mounted, live_at}
+use Rattle.zn_model.specs.Volume.{Live, Mounted, live_at}
 use Rattle.zn_model.specs.CallAnswers.{Answer, with_power, refused}
 use Rattle.zn_model.specs.Keys.{unkeyed, unkeyed_handle, unkeyed_answer}
-use Rattle.zn_model.specs.Lines.{Change, CloseFile, SizeOf, ReadFrom, WriteTo, StatOf, ListOf, Changes, bytes_of}
+use Rattle.zn_lines.specs.declared.words.Change.{Change}
+use Rattle.zn_lines.specs.Lines.{CloseFile, SizeOf, ReadFrom, WriteTo, StatOf, ListOf, Changes, bytes_of}
 use Rattle.zn_base.specs.Runs.{Run}
 use Rattle.zn_model.specs.Looks.{stat_call, stat_by, entries_call, entries_by, change_refusal}
 use Rattle.zn_model.specs.Reading.{size_call, read_call, size_by}
 use Rattle.zn_model.specs.Writing.{write_call}
-use Rattle.zn_model.specs.ReplyTexts.{refusal_name, reply_text, number_text, read_text, plain, stat_text, list_text}
-use Rattle.zn_model.specs.Session.{line_now, says, says_error, close_line, tells, handle_then, names_in}
+use Rattle.zn_lines.specs.ReplyTexts.{refusal_name, reply_text, number_text, read_text, plain, stat_text, list_text}
+use Rattle.zn_lines.specs.Session.{line_now, says, says_error, close_line, tells, handle_then, names_in}
 use Rattle.zn_model.specs.ZoneFiles.{listing_of, file_named}
 use Rattle.zn_model.proofs.KeysCalls.{size_unkeyed, read_unkeyed, write_unkeyed}
 use Rattle.zn_model.proofs.KeysLooks.{stat_unkeyed, entries_unkeyed}
-use Rattle.zn_session.specs.Seen.{table_of, number_at, IsNumbered}
+use Rattle.zn_session.specs.SessionState.{table_of, number_at, IsNumbered}
 use Rattle.zn_session.proofs.Numbers.{on_number, on_free}
 
 -- the answer of a call without keys, told
@@ -34,52 +35,52 @@ call_step : {X : Type 0} (told : X → List ℕ) (call : Mounted → Handle → 
     → handle_then (table_of m numbers) n (λ m' h'. tells told (table_of m numbers) (call m' h')) ≡ says (reply_text told refusal_name (call m h).reply) (table_of (call m h).mounted numbers)
 call_step told call m numbers n h e same = on_number m numbers n h (λ m' h'. tells told (table_of m numbers) (call m' h')) e ∙ tells_unkeyed told m numbers (call (unkeyed m) (unkeyed_handle h)) (call m h) same
 
-pub size_step : (m : Mounted) (numbers : List (Option Handle)) (n : ℕ) (h : Handle) → IsNumbered m numbers → number_at numbers n ≡ Some h
-    → line_now (table_of m numbers) (SizeOf n) ≡ says (reply_text number_text refusal_name (size_call m h).reply) (table_of (size_call m h).mounted numbers)
+pub size_step : (given : List ℕ) (m : Mounted) (numbers : List (Option Handle)) (n : ℕ) (h : Handle) → IsNumbered m numbers → number_at numbers n ≡ Some h
+    → line_now given (table_of m numbers) (SizeOf n) ≡ says (reply_text number_text refusal_name (size_call m h).reply) (table_of (size_call m h).mounted numbers)
 unfolding line_now
-size_step m numbers n h is e = let live = live_of (is.live n h e) in call_step number_text size_call m numbers n h e (size_unkeyed m h live.0 is.once live.1)
+size_step given m numbers n h is e = let live = live_of (is.live n h e) in call_step number_text size_call m numbers n h e (size_unkeyed m h live.0 is.once live.1)
 
-pub read_step : (m : Mounted) (numbers : List (Option Handle)) (n offset len : ℕ) (h : Handle) → IsNumbered m numbers → number_at numbers n ≡ Some h
-    → line_now (table_of m numbers) (ReadFrom n offset len) ≡ says (reply_text read_text refusal_name (read_call m h offset len).reply) (table_of (read_call m h offset len).mounted numbers)
+pub read_step : (given : List ℕ) (m : Mounted) (numbers : List (Option Handle)) (n offset len : ℕ) (h : Handle) → IsNumbered m numbers → number_at numbers n ≡ Some h
+    → line_now given (table_of m numbers) (ReadFrom n offset len) ≡ says (reply_text read_text refusal_name (read_call given m h offset len).reply) (table_of (read_call given m h offset len).mounted numbers)
 unfolding line_now
-read_step m numbers n offset len h is e = let live = live_of (is.live n h e) in call_step read_text (λ m' h'. read_call m' h' offset len) m numbers n h e (read_unkeyed m h offset len live.0 is.once live.1)
+read_step given m numbers n offset len h is e = let live = live_of (is.live n h e) in call_step read_text (λ m' h'. read_call given m' h' offset len) m numbers n h e (read_unkeyed given m h offset len live.0 is.once live.1)
 
-pub write_step : (m : Mounted) (numbers : List (Option Handle)) (n offset : ℕ) (runs : List Run) (h : Handle) → IsNumbered m numbers → number_at numbers n ≡ Some h
-    → line_now (table_of m numbers) (WriteTo n offset runs) ≡ says (reply_text plain refusal_name (write_call m h offset (bytes_of runs)).reply) (table_of (write_call m h offset (bytes_of runs)).mounted numbers)
+pub write_step : (given : List ℕ) (m : Mounted) (numbers : List (Option Handle)) (n offset : ℕ) (runs : List Run) (h : Handle) → IsNumbered m numbers → number_at numbers n ≡ Some h
+    → line_now given (table_of m numbers) (WriteTo n offset runs) ≡ says (reply_text plain refusal_name (write_call m h offset (bytes_of runs)).reply) (table_of (write_call m h offset (bytes_of runs)).mounted numbers)
 unfolding line_now
-write_step m numbers n offset runs h is e = let live = live_of (is.live n h e) in call_step plain (λ m' h'. write_call m' h' offset (bytes_of runs)) m numbers n h e (write_unkeyed m h offset (bytes_of runs) live.0 is.once live.1)
+write_step given m numbers n offset runs h is e = let live = live_of (is.live n h e) in call_step plain (λ m' h'. write_call m' h' offset (bytes_of runs)) m numbers n h e (write_unkeyed m h offset (bytes_of runs) live.0 is.once live.1)
 
-pub stat_step : (m : Mounted) (numbers : List (Option Handle)) (path : List ℕ)
-    → line_now (table_of m numbers) (StatOf path) ≡ says (reply_text (stat_text path) refusal_name (stat_call m path).reply) (table_of (stat_call m path).mounted numbers)
+pub stat_step : (given : List ℕ) (m : Mounted) (numbers : List (Option Handle)) (path : List ℕ)
+    → line_now given (table_of m numbers) (StatOf path) ≡ says (reply_text (stat_text path) refusal_name (stat_call m path).reply) (table_of (stat_call m path).mounted numbers)
 unfolding line_now
-stat_step m numbers path = tells_unkeyed (stat_text path) m numbers (stat_call (unkeyed m) path) (stat_call m path) (stat_unkeyed m path)
+stat_step given m numbers path = tells_unkeyed (stat_text path) m numbers (stat_call (unkeyed m) path) (stat_call m path) (stat_unkeyed m path)
 
-pub list_step : (m : Mounted) (numbers : List (Option Handle)) (path : List ℕ)
-    → line_now (table_of m numbers) (ListOf path) ≡ says (reply_text (λ n. list_text (names_in (listing_of m.volume.inodes.layout path))) refusal_name (entries_call m path).reply) (table_of (entries_call m path).mounted numbers)
+pub list_step : (given : List ℕ) (m : Mounted) (numbers : List (Option Handle)) (path : List ℕ)
+    → line_now given (table_of m numbers) (ListOf path) ≡ says (reply_text (λ n. list_text (names_in (listing_of m.volume.inodes.layout path))) refusal_name (entries_call m path).reply) (table_of (entries_call m path).mounted numbers)
 unfolding line_now
-list_step m numbers path = tells_unkeyed (λ n. list_text (names_in (listing_of m.volume.inodes.layout path))) m numbers (entries_call (unkeyed m) path) (entries_call m path) (entries_unkeyed m path)
+list_step given m numbers path = tells_unkeyed (λ n. list_text (names_in (listing_of m.volume.inodes.layout path))) m numbers (entries_call (unkeyed m) path) (entries_call m path) (entries_unkeyed m path)
 
-pub change_step : (m : Mounted) (numbers : List (Option Handle)) (change : Change) → line_now (table_of m numbers) (Changes change) ≡ says_error (refusal_name change_refusal) (table_of m numbers)
+pub change_step : (given : List ℕ) (m : Mounted) (numbers : List (Option Handle)) (change : Change) → line_now given (table_of m numbers) (Changes change) ≡ says_error (refusal_name change_refusal) (table_of m numbers)
 unfolding line_now
-change_step m numbers change = refl
+change_step given m numbers change = refl
 
 -- ---- numbers without a handle
 
-pub close_free : (m : Mounted) (numbers : List (Option Handle)) (n : ℕ) → number_at numbers n ≡ None → line_now (table_of m numbers) (CloseFile n) ≡ says_error (codes "bad-handle") (table_of m numbers)
+pub close_free : (given : List ℕ) (m : Mounted) (numbers : List (Option Handle)) (n : ℕ) → number_at numbers n ≡ None → line_now given (table_of m numbers) (CloseFile n) ≡ says_error (codes "bad-handle") (table_of m numbers)
 unfolding line_now
-close_free m numbers n e = on_free m numbers n (close_line (table_of m numbers) n) e
+close_free given m numbers n e = on_free m numbers n (close_line (table_of m numbers) n) e
 
-pub size_free : (m : Mounted) (numbers : List (Option Handle)) (n : ℕ) → number_at numbers n ≡ None → line_now (table_of m numbers) (SizeOf n) ≡ says_error (codes "bad-handle") (table_of m numbers)
+pub size_free : (given : List ℕ) (m : Mounted) (numbers : List (Option Handle)) (n : ℕ) → number_at numbers n ≡ None → line_now given (table_of m numbers) (SizeOf n) ≡ says_error (codes "bad-handle") (table_of m numbers)
 unfolding line_now
-size_free m numbers n e = on_free m numbers n (λ m' h'. tells number_text (table_of m numbers) (size_call m' h')) e
+size_free given m numbers n e = on_free m numbers n (λ m' h'. tells number_text (table_of m numbers) (size_call m' h')) e
 
-pub read_free : (m : Mounted) (numbers : List (Option Handle)) (n offset len : ℕ) → number_at numbers n ≡ None → line_now (table_of m numbers) (ReadFrom n offset len) ≡ says_error (codes "bad-handle") (table_of m numbers)
+pub read_free : (given : List ℕ) (m : Mounted) (numbers : List (Option Handle)) (n offset len : ℕ) → number_at numbers n ≡ None → line_now given (table_of m numbers) (ReadFrom n offset len) ≡ says_error (codes "bad-handle") (table_of m numbers)
 unfolding line_now
-read_free m numbers n offset len e = on_free m numbers n (λ m' h'. tells read_text (table_of m numbers) (read_call m' h' offset len)) e
+read_free given m numbers n offset len e = on_free m numbers n (λ m' h'. tells read_text (table_of m numbers) (read_call given m' h' offset len)) e
 
-pub write_free : (m : Mounted) (numbers : List (Option Handle)) (n offset : ℕ) (runs : List Run) → number_at numbers n ≡ None → line_now (table_of m numbers) (WriteTo n offset runs) ≡ says_error (codes "bad-handle") (table_of m numbers)
+pub write_free : (given : List ℕ) (m : Mounted) (numbers : List (Option Handle)) (n offset : ℕ) (runs : List Run) → number_at numbers n ≡ None → line_now given (table_of m numbers) (WriteTo n offset runs) ≡ says_error (codes "bad-handle") (table_of m numbers)
 unfolding line_now
-write_free m numbers n offset runs e = on_free m numbers n (λ m' h'. tells plain (table_of m numbers) (write_call m' h' offset (bytes_of runs))) e
+write_free given m numbers n offset runs e = on_free m numbers n (λ m' h'. tells plain (table_of m numbers) (write_call m' h' offset (bytes_of runs))) e
 
 -- ---- calls that only look
 

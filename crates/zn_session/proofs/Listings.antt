@@ -8,8 +8,8 @@ use Rattle.std.proofs.lemmas.Option.{same_Some}
 use Rattle.zn_model.specs.declared.answers.Refusal.TheVariants.{PowerLost}
 use Rattle.zn_model.specs.CallAnswers.{refused}
 use Rattle.zn_model.specs.Looks.{entries_by, entries_call}
-use Rattle.zn_model.specs.Session.{names_in}
-use Rattle.zn_model.specs.Table.{Mounted}
+use Rattle.zn_lines.specs.Session.{names_in}
+use Rattle.zn_model.specs.Volume.{Mounted}
 use Rattle.zn_model.specs.ZoneFiles.{Layout, directories_of, names_to, some_names, listing_of}
 use Rattle.zn_session.specs.Replies.{directory_names}
 use Rattle.zn_session.proofs.ReplyLaws.{names_count}

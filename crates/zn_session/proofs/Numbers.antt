@@ -4,12 +4,14 @@ use Rattle.std.proofs.Math.ListN.{get_or-map}
 use Rattle.std.proofs.lemmas.List.{get_or-replicate, length-replicate, get_or_past}
 use Rattle.std.proofs.lemmas.Bool.{cases_lt}
 use Rattle.std.specs.Prelude.{option_map, IsSome, codes}
+use Rattle.zn_lines.specs.declared.limits.TheConstants.{MAX_NUMBERS}
 use Rattle.zn_model.specs.declared.handles.Handle.{Handle}
-use Rattle.zn_model.specs.Table.{Handles, Mounted, live_at}
+use Rattle.zn_model.specs.Volume.{Handles, Mounted, live_at}
 use Rattle.zn_model.specs.Keys.{unkeyed, unkeyed_handle, IsUsedOnce}
-use Rattle.zn_model.specs.Session.{Stepped, max_numbers, no_numbers, handle_then, on_handle, says_error}
+use Rattle.zn_lines.specs.Table.{no_numbers}
+use Rattle.zn_lines.specs.Session.{Stepped, handle_then, on_handle, says_error}
 use Rattle.zn_model.proofs.KeysKept.{Keeps, once_kept}
-use Rattle.zn_session.specs.Seen.{unkeyed_numbers, table_of, number_at, IsNumbered}
+use Rattle.zn_session.specs.SessionState.{unkeyed_numbers, table_of, number_at, IsNumbered}
 
 pub number_unkeyed : (numbers : List (Option Handle)) (n : ℕ) → number_at (unkeyed_numbers numbers) n ≡ option_map unkeyed_handle (number_at numbers n)
 number_unkeyed numbers n = get_or-map (option_map unkeyed_handle) numbers n None
@@ -38,10 +40,10 @@ none_at k n = ⊎_elim (λ below. get_or-replicate k n None None below) (λ past
 
 -- no number is that of a handle
 none_has : (numbers : List (Option Handle)) (n : ℕ) (h : Handle) → numbers ≡ no_numbers → number_at numbers n ≡ Some h → ⊥
-none_has numbers n h none has = let is : None ≡ Some h = sym (none_at max_numbers n) ∙ ap (λ all. number_at all n) (sym none) ∙ has in cc is
+none_has numbers n h none has = let is : None ≡ Some h = sym (none_at MAX_NUMBERS n) ∙ ap (λ all. number_at all n) (sym none) ∙ has in cc is
 
-no_count : length no_numbers ≡ max_numbers
-no_count = let none : Option Handle = None in length-replicate max_numbers none
+no_count : length no_numbers ≡ MAX_NUMBERS
+no_count = let none : Option Handle = None in length-replicate MAX_NUMBERS none
 
 pub fresh_numbered : (m : Mounted) (numbers : List (Option Handle)) → numbers ≡ no_numbers → IsUsedOnce m.volume → IsNumbered m numbers
 fresh_numbered m numbers none once = record {
@@ -56,4 +58,4 @@ all_none [] none = refl
 all_none (found ∷ numbers) none = ap (λ all. option_map unkeyed_handle found ∷ all) (all_none numbers (λ n. none (suc n))) ∙ ap (λ one. one ∷ numbers) (ap (option_map unkeyed_handle) (none 0) ∙ sym (none 0))
 
 pub none_unkeyed : (numbers : List (Option Handle)) → numbers ≡ no_numbers → unkeyed_numbers numbers ≡ no_numbers
-none_unkeyed numbers none = ap unkeyed_numbers none ∙ all_none no_numbers (none_at max_numbers)
+none_unkeyed numbers none = ap unkeyed_numbers none ∙ all_none no_numbers (none_at MAX_NUMBERS)

@@ -1,5 +1,5 @@
 -- What opens make of the handles, and of the numbers.
-use Rattle.std.proofs.Common.{◌≡◌, ◌≢◌, ℕ, ◌<◌, Bool, true, false, List, [], ◌∷◌, ◌++◌, length, Option, Some, None, Result, Ok, Err, refl, sym, ap, ◌∙◌, subst, ⊎_elim, arith}
+use Rattle.std.proofs.Common.{◌≡◌, ◌≢◌, ℕ, ◌+◌, ◌<◌, Bool, true, false, List, [], ◌∷◌, ◌++◌, length, Option, Some, None, Result, Ok, Err, refl, sym, ap, ◌∙◌, subst, ⊎_elim, arith}
 use Rattle.std.specs.Prelude.{is_some, IsSome, find, slice_set, ◌&&◌, ◌==◌, not, MatchResult, if◌then◌else◌, option_map, codes}
 use Rattle.std.proofs.lemmas.Bool.{cases_Bool, cases_eq}
 use Rattle.std.proofs.lemmas.List.{map-set, get_or-set_same, get_or-set_other, length-set}
@@ -7,33 +7,36 @@ use Rattle.std.proofs.lemmas.Option.{same_Some}
 use Rattle.zn_truth.specs.declared.ZoneOp.TheVariants.{Open}
 use Rattle.zn_truth.specs.Orders.{Manage, Reply}
 use Rattle.zn_truth.specs.World.{issue}
+use Rattle.zn_truth.proofs.SoundIssue.{if_keeps}
 use Rattle.zn_model.specs.declared.answers.Refusal.{Refusal}
 use Rattle.zn_model.specs.declared.answers.Refusal.TheVariants.{PowerLost}
 use Rattle.zn_model.specs.declared.handles.Handle.{Handle}
 use Rattle.zn_model.specs.declared.handles.Mode.{Mode}
 use Rattle.zn_model.specs.declared.handles.Who.{Who}
-use Rattle.zn_model.specs.ZoneFiles.{capacity_of, file_named}
-use Rattle.zn_model.specs.Table.{Live, Handles, Mounted, file_at, shown_at, live_at, is_same_handle, next_handle}
+use Rattle.zn_model.specs.ZoneFiles.{file_named}
+use Rattle.zn_model.specs.Volume.{Live, Handles, Mounted, file_at, shown_at, capacity_at, live_at, is_same_handle, next_handle}
 use Rattle.zn_model.specs.CallAnswers.{Answer, refused, as_answer, as_refused, unless}
 use Rattle.zn_model.specs.Recovery.{refusal_of, after_failure}
-use Rattle.zn_model.specs.OpenClose.{begins_writing, check_open, held_open, opened, is_limit, after_open, open_now, open_by, open_call}
+use Rattle.zn_model.specs.OpenClose.{begins_writing, opening_refusal, held_open, opened, is_limit, after_open, open_now, open_by, open_call}
 use Rattle.zn_model.specs.Keys.{unkeyed, unkeyed_handle, unkeyed_reply, IsUsedOnce}
-use Rattle.zn_model.specs.Lines.{OpenFile}
-use Rattle.zn_model.specs.ReplyTexts.{refusal_name, reply_text, ok_text}
-use Rattle.zn_model.specs.Session.{Table, line_now, says, says_error, opens, handle_of}
+use Rattle.zn_lines.specs.Lines.{OpenFile}
+use Rattle.zn_lines.specs.ReplyTexts.{refusal_name, reply_text, ok_text}
+use Rattle.zn_lines.specs.Table.{Table, handle_of}
+use Rattle.zn_lines.specs.Session.{line_now, says, says_error, opens}
 use Rattle.zn_model.proofs.KeysHandles.{same_handle, same_as_itself}
 use Rattle.zn_model.proofs.KeysLists.{passes-find, All-find}
 use Rattle.zn_model.proofs.KeysKept.{failure_keeps}
 use Rattle.zn_model.proofs.KeysUsed.{found_in_longer}
 use Rattle.zn_model.proofs.KeysOpens.{open_unkeyed}
-use Rattle.zn_session.specs.Seen.{table_of, number_at, IsNumbered}
+use Rattle.zn_session.specs.SessionState.{table_of, number_at, IsNumbered}
 use Rattle.zn_session.proofs.Numbers.{number_unkeyed}
 
 -- ---- the handles
 
--- a handle that was made: it is new and live, and the others stay live
+-- a handle that was made: it is new and live, one more was opened, and the others stay live
 pub record Made (before : Handles) (h : Handle) (after : Handles) : Type 0 where
   pub new : h.generation ≡ before.opened
+  pub counted : after.opened ≡ before.opened + 1
   pub live : IsSome (live_at after h)
   pub others : (other : Handle) → IsSome (live_at before other) → IsSome (live_at after other)
 
@@ -41,13 +44,9 @@ pub record Made (before : Handles) (h : Handle) (after : Handles) : Type 0 where
 abbrev pub Opens : Handles → Answer Handle → Type 0
 Opens before answer = MatchResult answer.reply (λ h. Made before h answer.mounted.volume.handles) (λ refusal. answer.mounted.volume.handles ≡ before)
 
-found_behind : {X : Type 0} (b : Bool) (x : X) (short long : Option X) → is_some (if b then Some x else short) ≡ true → (is_some short ≡ true → is_some long ≡ true) → is_some (if b then Some x else long) ≡ true
-found_behind true x short long h rest = refl
-found_behind false x short long h rest = rest h
-
 found_last : {X : Type 0} (p : X → Bool) (xs : List X) (y : X) → p y ≡ true → is_some (find p (xs ++ y ∷ [])) ≡ true
 found_last p [] y h = rw h refl
-found_last p (x ∷ xs) y h = found_behind (p x) x (Some x) (find p (xs ++ y ∷ [])) (⊎_elim (λ yes. rw yes refl) (λ no. rw no refl) (cases_Bool (p x))) (λ _. found_last p xs y h)
+found_last p (x ∷ xs) y h = ⊎_elim (λ (yes : p x ≡ true). rw yes refl) (λ (no : p x ≡ false). rw no (found_last p xs y h)) (cases_Bool (p x))
 
 opened_made : (m : Mounted) (key f : ℕ) (mode : Mode) → Made m.volume.handles (next_handle m.volume.handles key) (opened m key f mode).mounted.volume.handles
 opened_made m key f mode =
@@ -55,24 +54,21 @@ opened_made m key f mode =
     let new : Live = record { handle = h; file = f; mode = mode } in
     record {
       new = refl;
+      counted = refl;
       live = found_last (λ (live : Live). is_same_handle live.handle h) m.volume.handles.live new (same_as_itself h);
       others = λ other some. found_in_longer (λ (live : Live). is_same_handle live.handle other) m.volume.handles.live (new ∷ []) some;
     }
 
-chosen : (P : Answer Handle → Type 0) (b : Bool) (one other : Answer Handle) → P one → P other → P (if b then one else other)
-chosen P true one other holds holds' = holds
-chosen P false one other holds holds' = holds'
-
 after_open_opens : (reply : Reply) (m : Mounted) (key f : ℕ) (mode : Mode) → Opens m.volume.handles (after_open reply m key f mode)
 after_open_opens (Ok unit) m key f mode = opened_made (record m { volume = record m.volume { inodes = held_open m.volume.inodes f true } }) key f mode
-after_open_opens (Err error) m key f mode = chosen (Opens m.volume.handles) (is_limit error) (refused (refusal_of error) m) (as_answer (after_failure false error m f)) refl (failure_keeps false error m f).handles
+after_open_opens (Err error) m key f mode = if_keeps (Opens m.volume.handles) (is_limit error) (refused (refusal_of error) m) (as_answer (after_failure false error m f)) refl (failure_keeps false error m f).handles
 
 open_now_opens : (m : Mounted) (key f : ℕ) (mode : Mode) → Opens m.volume.handles (open_now m key f mode)
 unfolding open_now
 open_now_opens m key f mode =
     let done = issue m.world (Manage (file_at m.volume.inodes f).first Open) in
     let after = record m { world = done.world } in
-    chosen (Opens m.volume.handles) (begins_writing m.volume f mode && not ((shown_at m.volume.inodes f).size == capacity_of (file_at m.volume.inodes f))) (after_open done.reply after key f mode) (opened m key f mode)
+    if_keeps (Opens m.volume.handles) (begins_writing m.volume f mode && not ((shown_at m.volume.inodes f).size == capacity_at m.volume.inodes f)) (after_open done.reply after key f mode) (opened m key f mode)
     (after_open_opens done.reply after key f mode) (opened_made m key f mode)
 
 checked_opens : (check : Option Refusal) (m : Mounted) (answer : Answer Handle) → Opens m.volume.handles answer → Opens m.volume.handles (unless (as_refused check) m answer)
@@ -81,13 +77,13 @@ checked_opens (Some refusal) m answer makes = refl
 
 open_by_opens : (found : Option ℕ) (m : Mounted) (key : ℕ) (mode : Mode) (who : Who) → Opens m.volume.handles (open_by found m key mode who)
 open_by_opens None m key mode who = refl
-open_by_opens (Some f) m key mode who = checked_opens (check_open m.world.truth.shape.max_open m.volume f mode who) m (open_now m key f mode) (open_now_opens m key f mode)
+open_by_opens (Some f) m key mode who = checked_opens (opening_refusal m.world.truth.shape.max_open m.volume f mode who) m (open_now m key f mode) (open_now_opens m key f mode)
 
 pub open_opens : (m : Mounted) (key : ℕ) (path : List ℕ) (mode : Mode) (who : Who) → Opens m.volume.handles (open_call m key path mode who)
 unfolding open_call
 open_opens m key path mode who =
     let found = file_named m.volume.inodes.layout path in
-    chosen (Opens m.volume.handles) m.world.powered (open_by found m key mode who) (refused PowerLost m) (open_by_opens found m key mode who) refl
+    if_keeps (Opens m.volume.handles) m.world.powered (open_by found m key mode who) (refused PowerLost m) (open_by_opens found m key mode who) refl
 
 -- ---- the numbers
 
@@ -156,11 +152,11 @@ opens_is after m (Ok h) numbers n =
     ap (λ (all : List (Option Handle)). let table : Table = record (table_of after numbers) { numbers = all } in says ok_text table) (sym (map-set (option_map unkeyed_handle) numbers n (Some h)))
 opens_is after m (Err refusal) numbers n = refl
 
-pub open_step : (m : Mounted) (numbers : List (Option Handle)) (n key : ℕ) (path : List ℕ) (mode : Mode) (who : Who) → number_at numbers n ≡ None
-    → line_now (table_of m numbers) (OpenFile n path mode who)
+pub open_step : (given : List ℕ) (m : Mounted) (numbers : List (Option Handle)) (n key : ℕ) (path : List ℕ) (mode : Mode) (who : Who) → number_at numbers n ≡ None
+    → line_now given (table_of m numbers) (OpenFile n path mode who)
     ≡ says (reply_text (λ h. ok_text) refusal_name (open_call m key path mode who).reply) (table_of (open_call m key path mode who).mounted (numbers_by (open_call m key path mode who).reply numbers n))
 unfolding line_now
-open_step m numbers n key path mode who free =
+open_step given m numbers n key path mode who free =
     let table = table_of m numbers in
     let free' : is_some (handle_of table n) ≡ false = ap is_some (number_unkeyed numbers n ∙ ap (option_map unkeyed_handle) free) in
     ap (λ (b : Bool). if b then says_error (codes "handle-in-use") table else opens (open_call (unkeyed m) 0 path mode who) (open_call (unkeyed m) 0 path mode who).reply table n) free'
@@ -171,10 +167,10 @@ some_mapped : (found : Option Handle) → is_some found ≡ true → is_some (op
 some_mapped None some = absurd (cc some)
 some_mapped (Some h) some = refl
 
-pub open_used : (m : Mounted) (numbers : List (Option Handle)) (n : ℕ) (path : List ℕ) (mode : Mode) (who : Who) → is_some (number_at numbers n) ≡ true
-    → line_now (table_of m numbers) (OpenFile n path mode who) ≡ says_error (codes "handle-in-use") (table_of m numbers)
+pub open_used : (given : List ℕ) (m : Mounted) (numbers : List (Option Handle)) (n : ℕ) (path : List ℕ) (mode : Mode) (who : Who) → is_some (number_at numbers n) ≡ true
+    → line_now given (table_of m numbers) (OpenFile n path mode who) ≡ says_error (codes "handle-in-use") (table_of m numbers)
 unfolding line_now
-open_used m numbers n path mode who used =
+open_used given m numbers n path mode who used =
     let table = table_of m numbers in
     let used' : is_some (handle_of table n) ≡ true = ap is_some (number_unkeyed numbers n) ∙ some_mapped (number_at numbers n) used in
     ap (λ (b : Bool). if b then says_error (codes "handle-in-use") table else opens (open_call (unkeyed m) 0 path mode who) (open_call (unkeyed m) 0 path mode who).reply table n) used'

@@ -8,16 +8,17 @@ use Rattle.std.proofs.lemmas.List.Concat.{flat_map-append}
 use Rattle.std.proofs.lemmas.List.FromFn.{length-map-range_with_len, get_or-map-range_with_len}
 use Rattle.zn_base.specs.Texts.{◌⧺◌}
 use Rattle.zn_base.specs.Runs.{data_text}
-use Rattle.zn_base.specs.Told.{Grew, GrewToward, Writes}
+use Rattle.zn_base.specs.States.{SinkState, Writes}
+use Rattle.zn_base.specs.Told.{Grew, GrewToward}
 use Rattle.zn_base.proofs.ToldLaws.{grew_then, grew_toward, toward_more}
-use Rattle.zn_model.specs.ReplyTexts.{number_text, read_text, name_line, list_text}
+use Rattle.zn_lines.specs.ReplyTexts.{number_text, read_text, name_line, list_text}
 use Rattle.zn_model.specs.ZoneFiles.{names_to}
 use Rattle.zn_model.specs.declared.files.Stat.{Stat}
 use Rattle.zn_session.specs.Replies.{front_text}
 
 -- a writer of one text writes another that is the same
-pub writes_as : {T E : Type 0} {told0 told : Option (List ℕ)} {before now : ℕ} {r : Result T E} {a b : List ℕ} → a ≡ b → Writes told0 told before now r a → Writes told0 told before now r b
-writes_as {told0 = told0} {told = told} {before = before} {now = now} {r = r} same writes = subst (λ (due : List ℕ). Writes told0 told before now r due) same writes
+pub writes_as : {T E : Type 0} {old new : SinkState} {r : Result T E} {a b : List ℕ} → a ≡ b → Writes r a old new → Writes r b old new
+writes_as {old = old} {new = new} {r = r} same writes = subst (λ (due : List ℕ). Writes r due old new) same writes
 
 -- the bytes of a read that gave some
 pub read_some : (bytes : List ℕ) → 0 < length bytes → front_text (length bytes) ++ (data_text bytes ++ codes "\n") ≡ read_text bytes

@@ -1,3 +1,3 @@
 pub mod Replies
-pub mod Seen
+pub mod SessionState
 pub mod Steps

@@ -1,26 +1,29 @@
 // The lines that are calls on a mounted volume.
-ghost use Rattle.std.specs.Prelude.{true, ◌≡◌, ◌≤◌, ◌<◌, ◌^◌, ◌⊎◌, ℕ, List, length, take, false, Option, Some, Ok, IfOk, IsSome, option_map};
-ghost use Rattle.zn_model.specs.Grammar.{last_number, most_bytes, data_of, root};
+ghost use Rattle.std.specs.Prelude.{◌≡◌, ◌≤◌, ◌<◌, ◌^◌, ℕ, List, length, take};
+ghost use Rattle.std.specs.Prelude.{false, Option, Some, Ok, IfOk, IsSome, option_map};
+ghost use Rattle.zn_lines.specs.declared.limits.TheConstants.{LAST_NUMBER};
+ghost use Rattle.zn_model.specs.declared.limits.TheConstants.{MOST_BYTES};
+ghost use Rattle.zn_lines.specs.Grammar.{data_of};
 ghost use Rattle.zn_model.specs.Reading.{read_call};
-ghost use Rattle.zn_model.specs.Lines.{bytes_of, OpenFile, CloseFile, SizeOf, ReadFrom, WriteTo, StatOf, ListOf, Changes};
-ghost use Rattle.zn_model.specs.ReplyTexts.{plain, number_text, read_text, list_text};
-ghost use Rattle.zn_model.specs.Session.{names_in};
+ghost use Rattle.zn_lines.specs.Lines.{bytes_of, OpenFile, CloseFile, SizeOf, ReadFrom, WriteTo, StatOf, ListOf};
+ghost use Rattle.zn_lines.specs.Lines.{Changes};
+ghost use Rattle.zn_lines.specs.ReplyTexts.{plain, number_text, read_text, list_text};
+ghost use Rattle.zn_lines.specs.Session.{names_in};
 ghost use Rattle.zn_model.specs.ZoneFiles.{listing_of};
 ghost use Rattle.zn_script.specs.Data.{CallFits};
-ghost use Rattle.zn_script.specs.Meant.{line_meant, change_meant, runs_meant};
+ghost use Rattle.zn_script.specs.Meant.{line_meant, runs_meant};
 ghost use Rattle.zn_volume.specs.Causes.{CallCause};
 ghost use Rattle.zn_volume.specs.Means.{as_read};
-ghost use Rattle.zn_session.specs.Seen.{IsNumbered, number_at};
-ghost use Rattle.zn_session.specs.Steps.{ends, Answers, IsReplyTo, is_busy_answer};
+ghost use Rattle.zn_volume.specs.VolumeState.{mounted_in};
+ghost use Rattle.zn_session.specs.SessionState.{IsNumbered, number_at};
+ghost use Rattle.zn_session.specs.Steps.{IsCall, Answers, IsReplyTo, is_busy_answer};
 
 use crate::replies::Reply;
-use zn_device::{Tells, Zoned};
+use zn_device::Zoned;
+use zn_lines::Change;
 use zn_model::{Handle, Mode, Refusal, Who};
-use zn_script::{Change, Line, expand};
+use zn_script::{Line, expand};
 use zn_volume::Volume;
-
-/// So many opens of one mount use up the generations of handles.
-const MOST_OPENS: u64 = 1 << 63;
 
 /// The handle of a number.
 fn handle_of(numbers: &[Option<Handle>], number: u32) -> Option<Handle>
@@ -50,8 +53,9 @@ fn number(answer: Result<u64, Refusal>) -> Reply<'static>
 
 /// A read that put so many bytes to the front of the buffer.
 fn bytes(answer: Result<u64, Refusal>) -> Reply<'static>
-    requires { IfOk answer (λ n. n ≤ most_bytes) }
-    ensures { (buffer : List ℕ) → most_bytes ≤ length buffer → IsReplyTo read_text (as_read answer buffer) result buffer }
+    requires { IfOk answer (λ n. n ≤ MOST_BYTES) }
+    ensures { (buffer : List ℕ) → MOST_BYTES ≤ length buffer
+        → IsReplyTo read_text (as_read answer buffer) result buffer }
 {
     match answer {
         Ok(count) => Reply::Bytes(count as usize),
@@ -60,26 +64,25 @@ fn bytes(answer: Result<u64, Refusal>) -> Reply<'static>
 }
 
 /// Opens the file of a path by a number that has no handle.
-pub fn open<D: Zoned + Drop>(
+fn open<D: Zoned + Drop>(
     volume: &mut Volume<D>,
     numbers: &mut Vec<Option<Handle>>,
     number: u32,
-    path: &[u8],
+    path: &str,
     mode: Mode,
+    who: Who,
 ) -> Reply<'static>
-    requires number { number ≤ last_number }
-    requires unspoilt { volume.old.spoilt ≡ false }
-    requires numbered { IsNumbered volume.old.mounted numbers.old.items }
-    ensures answers { (buffer : List ℕ) → Answers (OpenFile number path.now mode root) result buffer volume.old volume.new numbers.old.items numbers.new.items }
-    ensures cause { ends result ≡ true → (volume.new.spoilt ≡ true) ⊎ (2 ^ 63 ≤ volume.old.mounted.volume.handles.opened) }
+    requires number { number ≤ LAST_NUMBER }
+    requires unspoilt { volume.old.device.spoilt ≡ false }
+    requires few { volume.old.volume.handles.opened < 2 ^ 63 }
+    requires numbered { IsNumbered (mounted_in volume.old) numbers.old.items }
+    ensures { (buffer : List ℕ) → Answers (OpenFile number path.now mode who) result buffer
+        volume.old volume.new numbers.old.items numbers.new.items }
 {
     if handle_of(numbers, number).is_some() {
         return Reply::HandleInUse;
     }
-    if volume.opened() >= MOST_OPENS {
-        return Reply::Starved;
-    }
-    match volume.open(path, mode, Who { uid: 0, gid: 0 }) {
+    match volume.open(path, mode, who) {
         Ok(h) => {
             numbers[number as usize] = Some(h);
             Reply::Done
@@ -101,10 +104,11 @@ fn close<D: Zoned + Drop>(
     numbers: &mut Vec<Option<Handle>>,
     number: u32,
 ) -> Reply<'static>
-    requires number { number ≤ last_number }
-    requires unspoilt { volume.old.spoilt ≡ false }
-    requires numbered { IsNumbered volume.old.mounted numbers.old.items }
-    ensures { (buffer : List ℕ) → Answers (CloseFile number) result buffer volume.old volume.new numbers.old.items numbers.new.items }
+    requires number { number ≤ LAST_NUMBER }
+    requires unspoilt { volume.old.device.spoilt ≡ false }
+    requires numbered { IsNumbered (mounted_in volume.old) numbers.old.items }
+    ensures { (buffer : List ℕ) → Answers (CloseFile number) result buffer
+        volume.old volume.new numbers.old.items numbers.new.items }
 {
     let Some(h) = handle_of(numbers, number) else {
         return Reply::Refused(Refusal::BadHandle);
@@ -122,10 +126,11 @@ fn size<D: Zoned + Drop>(
     numbers: &[Option<Handle>],
     number: u32,
 ) -> Reply<'static>
-    requires number { number ≤ last_number }
-    requires unspoilt { volume.now.spoilt ≡ false }
-    requires numbered { IsNumbered volume.now.mounted numbers.now }
-    ensures { (buffer : List ℕ) → Answers (SizeOf number) result buffer volume.now volume.now numbers.now numbers.now }
+    requires number { number ≤ LAST_NUMBER }
+    requires unspoilt { volume.now.device.spoilt ≡ false }
+    requires numbered { IsNumbered (mounted_in volume.now) numbers.now }
+    ensures { (buffer : List ℕ) → Answers (SizeOf number) result buffer
+        volume.now volume.now numbers.now numbers.now }
 {
     match handle_of(numbers, number) {
         None => Reply::Refused(Refusal::BadHandle),
@@ -134,48 +139,51 @@ fn size<D: Zoned + Drop>(
 }
 
 /// Reads at most `len` bytes of the file of a handle into the front of some room.
-fn read_front<D: Tells + Drop>(
+fn read_front<D: Zoned + Drop>(
     volume: &mut Volume<D>,
     h: Handle,
     offset: u64,
     len: u32,
     room: &mut [u8],
 ) -> Result<u64, Refusal>
-    requires len { len ≤ most_bytes }
-    requires room { length room.old ≡ most_bytes }
-    requires unspoilt { volume.old.spoilt ≡ false }
-    ensures reply { volume.new.spoilt ≡ false → as_read result room.new ≡ (read_call volume.old.mounted h offset len).reply }
-    ensures mounted { volume.new.spoilt ≡ false → volume.new.mounted ≡ (read_call volume.old.mounted h offset len).mounted }
-    ensures count { IfOk result (λ n. n ≤ most_bytes) }
-    ensures room { length room.new ≡ most_bytes }
-    ensures cause { CallCause result volume.old volume.new }
+    requires len { len ≤ MOST_BYTES }
+    requires room { length room.old ≡ MOST_BYTES }
+    requires unspoilt { volume.old.device.spoilt ≡ false }
+    ensures reply { volume.new.device.spoilt ≡ false
+        → as_read result room.new ≡ (read_call room.new (mounted_in volume.old) h offset len).reply }
+    ensures mounted { volume.new.device.spoilt ≡ false
+        → mounted_in volume.new ≡ (read_call room.new (mounted_in volume.old) h offset len).mounted }
+    ensures count { IfOk result (λ n. n ≤ MOST_BYTES) }
+    ensures room { length room.new ≡ MOST_BYTES }
+    ensures cause { CallCause result volume.old.device volume.new.device }
 {
-    volume.tells();
     volume.read(h, offset, &mut room[..len as usize])
 }
 
 /// The same, into the front of the buffer.
-fn read_into<D: Tells + Drop>(
+fn read_into<D: Zoned + Drop>(
     volume: &mut Volume<D>,
     h: Handle,
     offset: u64,
     len: u32,
     buffer: &mut Vec<u8>,
 ) -> Result<u64, Refusal>
-    requires len { len ≤ most_bytes }
-    requires room { length buffer.old.items ≡ most_bytes }
-    requires unspoilt { volume.old.spoilt ≡ false }
-    ensures reply { volume.new.spoilt ≡ false → as_read result buffer.new.items ≡ (read_call volume.old.mounted h offset len).reply }
-    ensures mounted { volume.new.spoilt ≡ false → volume.new.mounted ≡ (read_call volume.old.mounted h offset len).mounted }
-    ensures count { IfOk result (λ n. n ≤ most_bytes) }
-    ensures room { length buffer.new.items ≡ most_bytes }
-    ensures cause { CallCause result volume.old volume.new }
+    requires len { len ≤ MOST_BYTES }
+    requires room { length buffer.old.items ≡ MOST_BYTES }
+    requires unspoilt { volume.old.device.spoilt ≡ false }
+    ensures reply { volume.new.device.spoilt ≡ false
+        → as_read result buffer.new.items ≡ (read_call buffer.new.items (mounted_in volume.old) h offset len).reply }
+    ensures mounted { volume.new.device.spoilt ≡ false
+        → mounted_in volume.new ≡ (read_call buffer.new.items (mounted_in volume.old) h offset len).mounted }
+    ensures count { IfOk result (λ n. n ≤ MOST_BYTES) }
+    ensures room { length buffer.new.items ≡ MOST_BYTES }
+    ensures cause { CallCause result volume.old.device volume.new.device }
 {
     read_front(volume, h, offset, len, buffer)
 }
 
 /// Reads at most `len` bytes into the front of the buffer.
-fn read<D: Tells + Drop>(
+fn read<D: Zoned + Drop>(
     volume: &mut Volume<D>,
     numbers: &[Option<Handle>],
     number: u32,
@@ -183,13 +191,14 @@ fn read<D: Tells + Drop>(
     len: u32,
     buffer: &mut Vec<u8>,
 ) -> Reply<'static>
-    requires number { number ≤ last_number }
-    requires len { len ≤ most_bytes }
-    requires room { length buffer.old.items ≡ most_bytes }
-    requires unspoilt { volume.old.spoilt ≡ false }
-    requires numbered { IsNumbered volume.old.mounted numbers.now }
-    ensures answers { Answers (ReadFrom number offset len) result buffer.new.items volume.old volume.new numbers.now numbers.now }
-    ensures room { length buffer.new.items ≡ most_bytes }
+    requires number { number ≤ LAST_NUMBER }
+    requires len { len ≤ MOST_BYTES }
+    requires room { length buffer.old.items ≡ MOST_BYTES }
+    requires unspoilt { volume.old.device.spoilt ≡ false }
+    requires numbered { IsNumbered (mounted_in volume.old) numbers.now }
+    ensures answers { Answers (ReadFrom number offset len) result buffer.new.items
+        volume.old volume.new numbers.now numbers.now }
+    ensures room { length buffer.new.items ≡ MOST_BYTES }
 {
     match handle_of(numbers, number) {
         None => Reply::Refused(Refusal::BadHandle),
@@ -200,10 +209,10 @@ fn read<D: Tells + Drop>(
 /// Puts the bytes that a word of data stands for to the front of the buffer, and answers how many they are.
 fn put_data(word: &[u8], buffer: &mut Vec<u8>) -> usize
     requires data { IsSome (data_of word.now) }
-    requires room { length buffer.old.items ≡ most_bytes }
+    requires room { length buffer.old.items ≡ MOST_BYTES }
     ensures bytes { take result buffer.new.items ≡ bytes_of (runs_meant word.now) }
-    ensures small { result ≤ most_bytes }
-    ensures room { length buffer.new.items ≡ most_bytes }
+    ensures small { result ≤ MOST_BYTES }
+    ensures room { length buffer.new.items ≡ MOST_BYTES }
 {
     expand(word, buffer)
 }
@@ -217,13 +226,14 @@ fn write<D: Zoned + Drop>(
     word: &[u8],
     buffer: &mut Vec<u8>,
 ) -> Reply<'static>
-    requires number { number ≤ last_number }
+    requires number { number ≤ LAST_NUMBER }
     requires data { IsSome (data_of word.now) }
-    requires room { length buffer.old.items ≡ most_bytes }
-    requires unspoilt { volume.old.spoilt ≡ false }
-    requires numbered { IsNumbered volume.old.mounted numbers.now }
-    ensures answers { Answers (WriteTo number offset (runs_meant word.now)) result buffer.new.items volume.old volume.new numbers.now numbers.now }
-    ensures room { length buffer.new.items ≡ most_bytes }
+    requires room { length buffer.old.items ≡ MOST_BYTES }
+    requires unspoilt { volume.old.device.spoilt ≡ false }
+    requires numbered { IsNumbered (mounted_in volume.old) numbers.now }
+    ensures answers { Answers (WriteTo number offset (runs_meant word.now)) result buffer.new.items
+        volume.old volume.new numbers.now numbers.now }
+    ensures room { length buffer.new.items ≡ MOST_BYTES }
 {
     match handle_of(numbers, number) {
         None => Reply::Refused(Refusal::BadHandle),
@@ -234,9 +244,10 @@ fn write<D: Zoned + Drop>(
     }
 }
 
-fn stat<'a, D: Zoned + Drop>(volume: &Volume<D>, path: &'a [u8]) -> Reply<'a>
-    requires unspoilt { volume.now.spoilt ≡ false }
-    ensures { (buffer : List ℕ) (numbers : List (Option Handle)) → IsNumbered volume.now.mounted numbers → Answers (StatOf path.now) result buffer volume.now volume.now numbers numbers }
+fn stat<'a, D: Zoned + Drop>(volume: &Volume<D>, path: &'a str) -> Reply<'a>
+    requires unspoilt { volume.now.device.spoilt ≡ false }
+    ensures { (buffer : List ℕ) (numbers : List (Option Handle)) → IsNumbered (mounted_in volume.now) numbers
+        → Answers (StatOf path.now) result buffer volume.now volume.now numbers numbers }
 {
     match volume.stat(path) {
         Ok(stat) => Reply::Told(path, stat),
@@ -245,11 +256,12 @@ fn stat<'a, D: Zoned + Drop>(volume: &Volume<D>, path: &'a [u8]) -> Reply<'a>
 }
 
 /// The names in a directory, of which there are so many.
-fn listing<D: Zoned + Drop>(volume: &Volume<D>, path: &[u8], entries: u32) -> Reply<'static>
-    requires { option_map length (listing_of volume.now.mounted.volume.inodes.layout path.now) ≡ Some entries }
-    ensures { (buffer : List ℕ) → IsReplyTo (λ (n : ℕ). list_text (names_in (listing_of volume.now.mounted.volume.inodes.layout path.now))) (Ok entries) result buffer }
+fn listing<D: Zoned + Drop>(volume: &Volume<D>, path: &str, entries: u32) -> Reply<'static>
+    requires { option_map length (listing_of volume.now.volume.inodes.layout path.now) ≡ Some entries }
+    ensures { let names = listing_of volume.now.volume.inodes.layout path.now in
+        (buffer : List ℕ) → IsReplyTo (λ (n : ℕ). list_text (names_in names)) (Ok entries) result buffer }
 {
-    if path == b"/".as_slice() {
+    if path == "/" {
         let (cnv, seq) = volume.files();
         Reply::Directories(cnv > 0, seq > 0)
     } else {
@@ -257,9 +269,10 @@ fn listing<D: Zoned + Drop>(volume: &Volume<D>, path: &[u8], entries: u32) -> Re
     }
 }
 
-fn list<D: Zoned + Drop>(volume: &Volume<D>, path: &[u8]) -> Reply<'static>
-    requires unspoilt { volume.now.spoilt ≡ false }
-    ensures { (buffer : List ℕ) (numbers : List (Option Handle)) → IsNumbered volume.now.mounted numbers → Answers (ListOf path.now) result buffer volume.now volume.now numbers numbers }
+fn list<D: Zoned + Drop>(volume: &Volume<D>, path: &str) -> Reply<'static>
+    requires unspoilt { volume.now.device.spoilt ≡ false }
+    ensures { (buffer : List ℕ) (numbers : List (Option Handle)) → IsNumbered (mounted_in volume.now) numbers
+        → Answers (ListOf path.now) result buffer volume.now volume.now numbers numbers }
 {
     match volume.entries(path) {
         Ok(entries) => listing(volume, path, entries),
@@ -268,28 +281,32 @@ fn list<D: Zoned + Drop>(volume: &Volume<D>, path: &[u8]) -> Reply<'static>
 }
 
 fn change<D: Zoned + Drop>(volume: &Volume<D>, change: Change) -> Reply<'static>
-    requires unspoilt { volume.now.spoilt ≡ false }
-    ensures { (buffer : List ℕ) (numbers : List (Option Handle)) → IsNumbered volume.now.mounted numbers → Answers (Changes (change_meant change)) result buffer volume.now volume.now numbers numbers }
+    requires unspoilt { volume.now.device.spoilt ≡ false }
+    ensures { (buffer : List ℕ) (numbers : List (Option Handle)) → IsNumbered (mounted_in volume.now) numbers
+        → Answers (Changes change) result buffer volume.now volume.now numbers numbers }
 {
     Reply::Refused(volume.change())
 }
 
-/// Does what a line asks for on a mounted volume.
-pub fn answer<'a, D: Tells + Drop>(
+/// Does what a line asks of a mounted volume.
+pub fn answer<'a, D: Zoned + Drop>(
     volume: &mut Volume<D>,
     numbers: &mut Vec<Option<Handle>>,
     buffer: &mut Vec<u8>,
     line: &Line<'a>,
 ) -> Reply<'a>
+    requires call { IsCall line.now }
     requires fits { CallFits line.now }
-    requires room { length buffer.old.items ≡ most_bytes }
-    requires unspoilt { volume.old.spoilt ≡ false }
-    requires numbered { IsNumbered volume.old.mounted numbers.old.items }
-    ensures answers { Answers (line_meant line.now) result buffer.new.items volume.old volume.new numbers.old.items numbers.new.items }
-    ensures room { length buffer.new.items ≡ most_bytes }
+    requires room { length buffer.old.items ≡ MOST_BYTES }
+    requires unspoilt { volume.old.device.spoilt ≡ false }
+    requires few { volume.old.volume.handles.opened < 2 ^ 63 }
+    requires numbered { IsNumbered (mounted_in volume.old) numbers.old.items }
+    ensures answers { Answers (line_meant line.now) result buffer.new.items
+        volume.old volume.new numbers.old.items numbers.new.items }
+    ensures room { length buffer.new.items ≡ MOST_BYTES }
 {
     match *line {
-        Line::Open(number, path, mode) => open(volume, numbers, number, path, mode),
+        Line::Open(number, path, mode, who) => open(volume, numbers, number, path, mode, who),
         Line::Close(number) => close(volume, numbers, number),
         Line::Size(number) => size(volume, numbers, number),
         Line::Read(number, offset, len) => read(volume, numbers, number, offset, len, buffer),
@@ -297,5 +314,7 @@ pub fn answer<'a, D: Tells + Drop>(
         Line::Stat(path) => stat(volume, path),
         Line::List(path) => list(volume, path),
         Line::Change(change) => self::change(volume, change),
+        // These are no calls.
+        Line::Mkfs(_) | Line::Mount(_) | Line::Umount => Reply::AlreadyMounted,
     }
 }

@@ -1,8 +1,13 @@
-//! A session: carries out the lines of a script on a mounted volume, and writes their replies.
+//! A session: carries out the lines of a script on a zoned device, and writes their replies.
 #![tactic(auto)]
 
 mod calls;
+mod formats;
+mod held;
 mod replies;
 mod session;
 
-pub use session::Session;
+pub use session::{Session, SessionFail};
+
+#[cfg(test)]
+mod tests;

@@ -1,34 +1,50 @@
 // Replies, as texts.
 ghost use Rattle.std.specs.Prelude.{◌≡◌, ◌≤◌, ◌+◌, ◌++◌, ◌%◌, length};
-ghost use Rattle.zn_base.specs.Told.{Writes};
-ghost use Rattle.zn_model.specs.ReplyTexts.{refusal_name, error_text, ok_text, number_text, read_text, stat_text, file_text, directory_text, octal_text, name_line, list_text};
+ghost use Rattle.zn_base.specs.States.{Writes};
+ghost use Rattle.zn_base.specs.Texts.{◌⧺◌};
+ghost use Rattle.zn_model.specs.declared.answers.FormatError.TheVariants.{BadZone0};
+ghost use Rattle.zn_model.specs.declared.answers.MountError.TheVariants.{NotFormatted};
+ghost use Rattle.zn_lines.specs.ReplyTexts.{mount_error_name, format_error_name, option_error_name};
+ghost use Rattle.zn_lines.specs.ReplyTexts.{refusal_name, error_text, ok_text, number_text, read_text, stat_text};
+ghost use Rattle.zn_lines.specs.ReplyTexts.{file_text, directory_text, octal_text, name_line, list_text};
 ghost use Rattle.std.specs.Fmt.{decimal};
+ghost use Rattle.zn_model.specs.declared.limits.TheConstants.{MOST_BYTES};
 ghost use Rattle.zn_model.specs.ZoneFiles.{names_to};
 ghost use Rattle.zn_session.specs.Replies.{text_of, front_text, IsWritable, directory_names};
 
 use zn_base::{Part, Sink, WriteFault, write_all, write_parts, write_runs};
-use zn_model::{Refusal, Stat};
+use zn_model::{FormatError, MountError, OptError, Refusal, Stat, Why};
+use zn_truth::Cond;
 
 /// What a line is answered.
 #[derive(Clone, Copy)]
 pub enum Reply<'a> {
     /// No volume is mounted.
     NotMounted,
+    /// A volume is mounted already.
+    AlreadyMounted,
     /// The number of an open has a handle already.
     HandleInUse,
+    /// The label of a format is none.
+    BadLabel,
+    /// The identifier of a format is none.
+    BadUuid,
+    /// A call on the volume was refused.
     Refused(Refusal),
+    /// The options of a format or of a mount are faulty.
+    OptionRefused(OptError),
+    FormatRefused(FormatError),
+    MountRefused(MountError),
     Done,
     Number(u64),
     /// So many bytes at the front of the session's buffer.
     Bytes(usize),
     /// What is told of the file or directory of a path.
-    Told(&'a [u8], Stat),
+    Told(&'a str, Stat),
     /// The directories that exist: `cnv` and `seq`.
     Directories(bool, bool),
     /// The names of so many files: `0`, `1` and so on.
     Names(u32),
-    /// There is no memory for the line.
-    Starved,
 }
 
 /// The name of a refusal.
@@ -64,8 +80,7 @@ fn refusal_text(refusal: Refusal) -> &'static [u8]
 }
 
 fn write_error<K: Sink>(sink: &mut K, name: &[u8]) -> Result<(), WriteFault>
-    ensures { Writes (K.written sink.old) (K.written sink.new)
-        (K.faults sink.old) (K.faults sink.new) result (error_text name.now) }
+    ensures { Writes result (error_text name.now) (K.state sink.old) (K.state sink.new) }
 {
     write_parts(
         sink,
@@ -73,9 +88,88 @@ fn write_error<K: Sink>(sink: &mut K, name: &[u8]) -> Result<(), WriteFault>
     )
 }
 
+/// Writes an error whose name ends in a number.
+fn write_error_at<K: Sink>(sink: &mut K, name: &[u8], place: u32) -> Result<(), WriteFault>
+    ensures { Writes result (error_text (name.now ⧺ decimal place)) (K.state sink.old) (K.state sink.new) }
+{
+    write_parts(
+        sink,
+        &[
+            Part::Text(b"error "),
+            Part::Text(name),
+            Part::Number(place as u64),
+            Part::Text(b"\n"),
+        ],
+    )
+}
+
+/// Writes what is wrong with an option, and where.
+fn write_option_error<K: Sink>(sink: &mut K, error: &OptError) -> Result<(), WriteFault>
+    ensures { Writes result (error_text (option_error_name error.now)) (K.state sink.old) (K.state sink.new) }
+{
+    match error {
+        OptError::UnknownOption(place) => write_error_at(sink, b"unknown-option ", *place),
+        OptError::Repeated(place) => write_error_at(sink, b"repeated-option ", *place),
+        OptError::BadValue(place) => write_error_at(sink, b"bad-value ", *place),
+    }
+}
+
+/// Writes why a device isn't formatted.
+fn write_unformatted<K: Sink>(sink: &mut K, why: &Why) -> Result<(), WriteFault>
+    ensures { Writes result (error_text (mount_error_name (NotFormatted why.now))) (K.state sink.old) (K.state sink.new) }
+{
+    match why {
+        Why::BadMagic => write_error(sink, b"not-formatted bad-magic"),
+        Why::CopiesDiffer(place) => {
+            write_error_at(sink, b"not-formatted copies-differ ", *place)
+        }
+        Why::BadVersion(version) => write_error_at(sink, b"not-formatted bad-version ", *version),
+        Why::BadField(place) => write_error_at(sink, b"not-formatted bad-field ", *place),
+        Why::Zone0NotFull => write_error(sink, b"not-formatted zone0-not-full"),
+        Why::Zone0Offline => write_error(sink, b"not-formatted zone0-offline"),
+    }
+}
+
+/// Writes why a mount failed.
+fn write_mount_error<K: Sink>(sink: &mut K, error: &MountError) -> Result<(), WriteFault>
+    ensures { Writes result (error_text (mount_error_name error.now)) (K.state sink.old) (K.state sink.new) }
+{
+    match error {
+        MountError::NotFormatted(why) => write_unformatted(sink, why),
+        MountError::IoError => write_error(sink, b"io-error"),
+        MountError::PowerLost => write_error(sink, b"power-lost"),
+        MountError::Broken => write_error(sink, b"broken"),
+        MountError::Memory => write_error(sink, b"memory"),
+    }
+}
+
+/// Writes the condition for which zone 0 can't be formatted.
+fn write_bad_zone<K: Sink>(sink: &mut K, cond: &Cond) -> Result<(), WriteFault>
+    ensures { Writes result (error_text (format_error_name (BadZone0 cond.now))) (K.state sink.old) (K.state sink.new) }
+{
+    match cond {
+        Cond::Good => write_error(sink, b"bad-zone0 good"),
+        Cond::ReadOnly => write_error(sink, b"bad-zone0 read-only"),
+        Cond::Offline => write_error(sink, b"bad-zone0 offline"),
+    }
+}
+
+/// Writes why a format failed.
+fn write_format_error<K: Sink>(sink: &mut K, error: &FormatError) -> Result<(), WriteFault>
+    ensures { Writes result (error_text (format_error_name error.now)) (K.state sink.old) (K.state sink.new) }
+{
+    match error {
+        FormatError::AlreadyFormatted => write_error(sink, b"already-formatted"),
+        FormatError::BadZone0(cond) => write_bad_zone(sink, cond),
+        FormatError::IoError => write_error(sink, b"io-error"),
+        FormatError::PowerLost => write_error(sink, b"power-lost"),
+        FormatError::Broken => write_error(sink, b"broken"),
+        FormatError::Memory => write_error(sink, b"memory"),
+    }
+}
+
 fn write_count<K: Sink>(sink: &mut K, count: u64) -> Result<(), WriteFault>
-    ensures { Writes (K.written sink.old) (K.written sink.new)
-        (K.faults sink.old) (K.faults sink.new) result (number_text count) }
+    ensures { Writes result (number_text count) (K.state sink.old) (K.state sink.new) }
 {
     write_parts(
         sink,
@@ -85,8 +179,7 @@ fn write_count<K: Sink>(sink: &mut K, count: u64) -> Result<(), WriteFault>
 
 /// Writes what stands before the bytes of a read.
 fn write_front<K: Sink>(sink: &mut K, count: u64) -> Result<(), WriteFault>
-    ensures { Writes (K.written sink.old) (K.written sink.new)
-        (K.faults sink.old) (K.faults sink.new) result (front_text count) }
+    ensures { Writes result (front_text count) (K.state sink.old) (K.state sink.new) }
 {
     write_parts(
         sink,
@@ -96,9 +189,8 @@ fn write_front<K: Sink>(sink: &mut K, count: u64) -> Result<(), WriteFault>
 
 /// Writes the bytes of a read as runs, behind their number.
 fn write_bytes<K: Sink>(sink: &mut K, bytes: &[u8]) -> Result<(), WriteFault>
-    requires { length bytes.now ≤ 1048576 }
-    ensures { Writes (K.written sink.old) (K.written sink.new)
-        (K.faults sink.old) (K.faults sink.new) result (read_text bytes.now) }
+    requires { length bytes.now ≤ MOST_BYTES }
+    ensures { Writes result (read_text bytes.now) (K.state sink.old) (K.state sink.new) }
 {
     if bytes.is_empty() {
         return write_all(sink, b"ok 0\n");
@@ -127,8 +219,7 @@ fn write_file_of_mode<'a, K: Sink>(
     stat: &Stat,
 ) -> Result<(), WriteFault>
     requires { mode.now ≡ octal_text stat.now.mode }
-    ensures { Writes (K.written sink.old) (K.written sink.new)
-        (K.faults sink.old) (K.faults sink.new) result (file_text path.now stat.now) }
+    ensures { Writes result (file_text path.now stat.now) (K.state sink.old) (K.state sink.new) }
 {
     write_parts(
         sink,
@@ -157,8 +248,7 @@ fn write_file_of_mode<'a, K: Sink>(
 }
 
 fn write_file<K: Sink>(sink: &mut K, path: &[u8], stat: &Stat) -> Result<(), WriteFault>
-    ensures { Writes (K.written sink.old) (K.written sink.new)
-        (K.faults sink.old) (K.faults sink.new) result (file_text path.now stat.now) }
+    ensures { Writes result (file_text path.now stat.now) (K.state sink.old) (K.state sink.new) }
 {
     let mode = [
         octal_digit(stat.mode / 64),
@@ -169,8 +259,7 @@ fn write_file<K: Sink>(sink: &mut K, path: &[u8], stat: &Stat) -> Result<(), Wri
 }
 
 fn write_directory<K: Sink>(sink: &mut K, path: &[u8], stat: &Stat) -> Result<(), WriteFault>
-    ensures { Writes (K.written sink.old) (K.written sink.new)
-        (K.faults sink.old) (K.faults sink.new) result (directory_text path.now stat.now) }
+    ensures { Writes result (directory_text path.now stat.now) (K.state sink.old) (K.state sink.new) }
 {
     write_parts(
         sink,
@@ -185,8 +274,7 @@ fn write_directory<K: Sink>(sink: &mut K, path: &[u8], stat: &Stat) -> Result<()
 }
 
 fn write_stat<K: Sink>(sink: &mut K, path: &[u8], stat: &Stat) -> Result<(), WriteFault>
-    ensures { Writes (K.written sink.old) (K.written sink.new)
-        (K.faults sink.old) (K.faults sink.new) result (stat_text path.now stat.now) }
+    ensures { Writes result (stat_text path.now stat.now) (K.state sink.old) (K.state sink.new) }
 {
     if stat.dir {
         write_directory(sink, path, stat)
@@ -197,8 +285,7 @@ fn write_stat<K: Sink>(sink: &mut K, path: &[u8], stat: &Stat) -> Result<(), Wri
 
 /// Writes a number of names, and names that stand on lines of their own.
 fn write_named<K: Sink>(sink: &mut K, count: u64, names: &[u8]) -> Result<(), WriteFault>
-    ensures { Writes (K.written sink.old) (K.written sink.new)
-        (K.faults sink.old) (K.faults sink.new) result (number_text count ++ names.now) }
+    ensures { Writes result (number_text count ++ names.now) (K.state sink.old) (K.state sink.new) }
 {
     write_parts(
         sink,
@@ -213,8 +300,7 @@ fn write_named<K: Sink>(sink: &mut K, count: u64, names: &[u8]) -> Result<(), Wr
 
 /// Writes the names of the directories that exist, each on a line, behind their number.
 fn write_directories<K: Sink>(sink: &mut K, cnv: bool, seq: bool) -> Result<(), WriteFault>
-    ensures { Writes (K.written sink.old) (K.written sink.new)
-        (K.faults sink.old) (K.faults sink.new) result (list_text (directory_names cnv seq)) }
+    ensures { Writes result (list_text (directory_names cnv seq)) (K.state sink.old) (K.state sink.new) }
 {
     match (cnv, seq) {
         (false, false) => write_named(sink, 0, b""),
@@ -226,16 +312,14 @@ fn write_directories<K: Sink>(sink: &mut K, cnv: bool, seq: bool) -> Result<(), 
 
 /// Writes the name of a file, on a line.
 fn write_name<K: Sink>(sink: &mut K, name: u32) -> Result<(), WriteFault>
-    ensures { Writes (K.written sink.old) (K.written sink.new)
-        (K.faults sink.old) (K.faults sink.new) result (name_line (decimal name)) }
+    ensures { Writes result (name_line (decimal name)) (K.state sink.old) (K.state sink.new) }
 {
     write_parts(sink, &[Part::Number(name as u64), Part::Text(b"\n")])
 }
 
 /// Writes the names of so many files, each on a line, behind their number.
 fn write_names<K: Sink>(sink: &mut K, count: u32) -> Result<(), WriteFault>
-    ensures { Writes (K.written sink.old) (K.written sink.new)
-        (K.faults sink.old) (K.faults sink.new) result (list_text (names_to count)) }
+    ensures { Writes result (list_text (names_to count)) (K.state sink.old) (K.state sink.new) }
 {
     if let Err(fault) = write_count(sink, count as u64) {
         return Err(fault);
@@ -255,19 +339,23 @@ pub fn write_reply<K: Sink>(
     buffer: &[u8],
 ) -> Result<(), WriteFault>
     requires { IsWritable reply.now buffer.now }
-    ensures { Writes (K.written sink.old) (K.written sink.new)
-        (K.faults sink.old) (K.faults sink.new) result (text_of reply.now buffer.now) }
+    ensures { Writes result (text_of reply.now buffer.now) (K.state sink.old) (K.state sink.new) }
 {
     match reply {
         Reply::NotMounted => write_error(sink, b"not-mounted"),
+        Reply::AlreadyMounted => write_error(sink, b"already-mounted"),
         Reply::HandleInUse => write_error(sink, b"handle-in-use"),
+        Reply::BadLabel => write_error(sink, b"bad-label"),
+        Reply::BadUuid => write_error(sink, b"bad-uuid"),
         Reply::Refused(refusal) => write_error(sink, refusal_text(*refusal)),
+        Reply::OptionRefused(error) => write_option_error(sink, error),
+        Reply::FormatRefused(error) => write_format_error(sink, error),
+        Reply::MountRefused(error) => write_mount_error(sink, error),
         Reply::Done => write_all(sink, b"ok\n"),
         Reply::Number(number) => write_count(sink, *number),
         Reply::Bytes(count) => write_bytes(sink, &buffer[..*count]),
-        Reply::Told(path, stat) => write_stat(sink, path, stat),
+        Reply::Told(path, stat) => write_stat(sink, path.as_bytes(), stat),
         Reply::Directories(cnv, seq) => write_directories(sink, *cnv, *seq),
         Reply::Names(count) => write_names(sink, *count),
-        Reply::Starved => Ok(()),
     }
 }

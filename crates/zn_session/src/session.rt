@@ -1,54 +1,65 @@
 // A session.
-ghost use Rattle.std.specs.Prelude.{◌≡◌, ◌≢◌, ◌⊎◌, ◌≤◌, ◌^◌, [], false, true, not, Ok, Some, IfOk};
-ghost use Rattle.zn_model.specs.Grammar.{last_number, root};
-ghost use Rattle.zn_model.specs.Keys.{IsUsedOnce, unkeyed_volume};
-ghost use Rattle.zn_model.specs.Lines.{OpenFile};
-ghost use Rattle.zn_model.specs.Session.{no_numbers, line_now};
-ghost use Rattle.zn_run.specs.State.{state_of};
-ghost use Rattle.zn_run.specs.Steps.{StepMeans};
+ghost use Rattle.std.specs.Prelude.{◌≡◌, ◌<◌, ◌+◌, ◌^◌, ℕ, List, length, false, Ok, Some, IfOk, IfErr, IsSome};
+ghost use Rattle.zn_lines.specs.Session.{line_now, line_step};
+ghost use Rattle.zn_lines.specs.Table.{no_numbers};
+ghost use Rattle.zn_model.specs.declared.limits.TheConstants.{MOST_BYTES};
+ghost use Rattle.zn_run.specs.States.{state_of};
+ghost use Rattle.zn_run.specs.Steps.{Stepped};
 ghost use Rattle.zn_script.specs.Data.{CallFits};
 ghost use Rattle.zn_script.specs.Meant.{line_meant};
 ghost use Rattle.zn_session.specs.Replies.{text_of, IsWritable};
-ghost use Rattle.zn_session.specs.Seen.{table_in};
-ghost use Rattle.zn_session.specs.Steps.{ends, stops, Said};
+ghost use Rattle.zn_session.specs.SessionState.{held_by, begun, machine_of, AreNumbered, opened_on};
+ghost use Rattle.zn_session.specs.Steps.{IsCall, Means, Performed, ends, is_starved, ended_by, told_by, stops, Said};
 
-use crate::calls::{answer, open};
+use crate::calls;
+use crate::formats::mkfs;
+use crate::held::{Held, breaks, device, drop_unpowered, into_device, mount, umount};
 use crate::replies::{Reply, write_reply};
 use std::alloc::{AllocError, Global};
 use std::marker::Model;
 use zn_base::Sink;
-use zn_device::{Tells, Zoned};
-use zn_model::{Handle, Mode, Refusal};
+use zn_device::Zoned;
+use zn_lines::MAX_NUMBERS;
+use zn_model::{FormatError, Handle, MOST_BYTES, MountError, Refusal};
 use zn_run::{Machine, Step};
-use zn_script::{Line, MOST_BYTES, parse};
-use zn_volume::Volume;
+use zn_script::{Line, parse};
 
-/// How many numbers a script may call handles by.
-const NUMBERS: usize = 2048;
-
-/// A session on a volume. Only `new` takes memory.
+/// A session on a device. It begins without a volume; lines format the device, mount and unmount it. Only `new`, lines
+/// that format or mount, and the device's commands take memory.
 #[derive(Drop)]
 pub struct Session<D: Zoned + Drop> {
-    volume: Volume<D>,
-    /// Whether the volume is mounted. It is not once the power was lost.
-    is_mounted: bool,
+    alloc: Global,
+    /// The device, bare or with a volume. It is there but while a line has it in hand.
+    held: Option<Held<D>>,
     /// The handle of each number.
     numbers: Vec<Option<Handle>>,
     /// Room for the bytes of a call.
     buffer: Vec<u8>,
+    /// What a format without an identifier makes one of.
+    entropy: [u8; 16],
     /// Whether no further line may come.
     is_over: bool,
+    /// How many lines it was given. No more handles were opened.
+    steps: u64,
 }
 
 impl<D: Zoned + Drop> Model for Session<D> {
-    ghost use Rattle.std.specs.Prelude.{length};
-    ghost use Rattle.zn_session.specs.Seen.{Seen, IsSession, seen_of};
+    ghost use Rattle.std.specs.Prelude.{length, is_some};
+    ghost use Rattle.zn_session.specs.SessionState.{SessionState, IsSession, held_by, session_of};
 
-    ghost Value = { Seen };
+    ghost Value = { SessionState };
 
-    ghost view = { λ s. seen_of s.volume s.is_mounted s.numbers.items s.is_over };
+    ghost view = { λ s. session_of (held_by D.state s.held) s.numbers.items s.entropy s.is_over s.steps };
 
-    ghost invariant = { λ s. IsSession (seen_of s.volume s.is_mounted s.numbers.items s.is_over) (length s.buffer.items) };
+    ghost invariant = { λ s.
+        IsSession (session_of (held_by D.state s.held) s.numbers.items s.entropy s.is_over s.steps)
+        (is_some s.held) (length s.buffer.items) };
+}
+
+/// A device for which there was no memory to begin a session, as it was.
+#[derive(Drop)]
+pub struct SessionFail<D> {
+    pub dev: D,
 }
 
 /// No handle for each number.
@@ -56,78 +67,54 @@ fn no_handles(alloc: Global) -> Result<Vec<Option<Handle>>, AllocError>
     ensures { IfOk result (λ numbers. numbers.items ≡ no_numbers) }
 {
     let mut numbers = Vec::new(alloc);
-    for _ in 0..NUMBERS {
+    for _ in 0..MAX_NUMBERS {
         numbers.push(None)?;
     }
     Ok(numbers)
 }
 
-impl<D: Zoned + Drop> Session<D> {
-    /// A session on a mounted volume, on which no handle is open. No number has a handle.
-    pub fn new(alloc: Global, volume: Volume<D>) -> Result<Session<D>, AllocError>
-        requires unspoilt { volume.spoilt ≡ false }
-        requires once { IsUsedOnce volume.mounted.volume }
-        ensures table { IfOk result (λ s. table_in s ≡ record { world = volume.mounted.world; volume = Some (unkeyed_volume volume.mounted.volume); numbers = no_numbers; entropy = [] }) }
-        ensures mounted { IfOk result (λ s. s.is_mounted ≡ true) }
-        ensures goes_on { IfOk result (λ s. s.over ≡ false) }
-        ensures counts { IfOk result (λ s. s.breaks ≡ volume.breaks) }
-    {
-        let numbers = no_handles(alloc)?;
-        let buffer = vec![in alloc; 0; MOST_BYTES as usize]?;
-        Ok(Session {
-            volume,
-            is_mounted: true,
-            numbers,
-            buffer,
-            is_over: false,
-        })
-    }
-
-    /// The volume. It is mounted no more once the power was lost.
-    pub fn volume(&self) -> &Volume<D>
-        ensures mounted { result.now.mounted ≡ self.now.mounted }
-        ensures breaks { result.now.breaks ≡ self.now.breaks }
-    {
-        &self.volume
-    }
-
-    /// Opens the file of a path by a number, as a line does, but without a reply. It answers whether lines may follow:
-    /// not where the device is broken or memory is wanting, or where 2^63 handles were opened.
-    pub fn open(&mut self, number: u32, path: &[u8], mode: Mode) -> bool
-        requires number { number ≤ last_number }
-        requires mounted { self.old.is_mounted ≡ true }
-        requires goes_on { self.old.over ≡ false }
-        ensures goes_on { self.new.over ≡ not result }
-        ensures table { result ≡ true → table_in self.new ≡ (line_now (table_in self.old) (OpenFile number path.now mode root)).table }
-        ensures counts { result ≡ true → self.new.breaks ≡ self.old.breaks }
-        ensures cause { result ≡ false → (self.new.spoilt ≡ true) ⊎ (2 ^ 63 ≤ self.old.mounted.volume.handles.opened) }
-    {
-        let reply = open(&mut self.volume, &mut self.numbers, number, path, mode);
-        self.is_over = ends(&reply);
-        !self.is_over
-    }
+/// All the memory that a session keeps: the handles of its numbers, and room for the bytes of a call.
+fn take_room(alloc: Global) -> Result<(Vec<Option<Handle>>, Vec<u8>), AllocError>
+    ensures numbers { IfOk result (λ room. room.0.items ≡ no_numbers) }
+    ensures buffer { IfOk result (λ room. length room.1.items ≡ MOST_BYTES) }
+{
+    let numbers = no_handles(alloc)?;
+    let buffer = vec![in alloc; 0; MOST_BYTES as usize]?;
+    Ok((numbers, buffer))
 }
 
-/// Whether a reply ends the run: the device is broken, or memory is wanting.
+/// Whether a reply ends the run.
 fn ends(reply: &Reply<'_>) -> bool
     ensures { result ≡ ends reply.now }
 {
     matches!(
         reply,
-        Reply::Refused(Refusal::Broken | Refusal::Memory) | Reply::Starved
+        Reply::Refused(Refusal::Broken | Refusal::Memory)
+            | Reply::FormatRefused(FormatError::Broken | FormatError::Memory)
+            | Reply::MountRefused(MountError::Broken | MountError::Memory)
+    )
+}
+
+/// Whether a reply tells want of memory.
+fn tells_memory(reply: &Reply<'_>) -> bool
+    ensures { result ≡ is_starved (told_by reply.now) }
+{
+    matches!(
+        reply,
+        Reply::Refused(Refusal::Memory)
+            | Reply::FormatRefused(FormatError::Memory)
+            | Reply::MountRefused(MountError::Memory)
     )
 }
 
 /// How a reply ends a run, by whether what the device is kept in failed.
-fn ending(reply: &Reply<'_>, has_failed: bool) -> Step
-    ensures broken { result ≡ Step.Broken → (has_failed ≡ true) ⊎ (reply.now ≡ Reply.Refused Refusal.Broken) }
-    ensures memory { result ≢ Step.Broken → has_failed ≡ false }
-    ensures either { (result ≡ Step.Broken) ⊎ (result ≡ Step.Memory) }
+fn ending(has_failed: bool, reply: &Reply<'_>) -> Step
+    ensures { result ≡ ended_by has_failed (told_by reply.now) }
 {
-    if has_failed || matches!(reply, Reply::Refused(Refusal::Broken)) {
-        Step::Broken
-    } else {
+    if !has_failed && tells_memory(reply) {
         Step::Memory
+    } else {
+        Step::Broken
     }
 }
 
@@ -141,8 +128,7 @@ fn stops(step: Step) -> bool
 /// Writes the text of a reply.
 fn say<K: Sink>(sink: &mut K, reply: &Reply<'_>, buffer: &[u8]) -> Step
     requires { IsWritable reply.now buffer.now }
-    ensures { Said result (text_of reply.now buffer.now)
-        (K.written sink.old) (K.written sink.new) (K.faults sink.old) (K.faults sink.new) }
+    ensures { Said result (text_of reply.now buffer.now) (K.state sink.old) (K.state sink.new) }
 {
     match write_reply(sink, reply, buffer) {
         Ok(()) => Step::Done,
@@ -150,69 +136,190 @@ fn say<K: Sink>(sink: &mut K, reply: &Reply<'_>, buffer: &[u8]) -> Step
     }
 }
 
-impl<D: Tells + Drop> Session<D> {
-    /// Carries out a line where no volume is mounted.
-    fn carry_out_bare<K: Sink>(&mut self, line: &Line<'_>, sink: &mut K) -> Step
-        requires mounted { self.old.is_mounted ≡ false }
-        requires goes_on { self.old.over ≡ false }
-        ensures { StepMeans result (Ok (Some (line_meant line.now)))
-            (state_of (table_in self.old) self.old.over self.old.breaks (K.written sink.old) (K.faults sink.old))
-            (state_of (table_in self.new) self.new.over self.new.breaks (K.written sink.new) (K.faults sink.new)) }
+/// Does what a line asks of a volume, where one is mounted.
+fn call<'a, D: Zoned + Drop>(
+    held: &mut Option<Held<D>>,
+    numbers: &mut Vec<Option<Handle>>,
+    buffer: &mut Vec<u8>,
+    line: &Line<'a>,
+) -> Reply<'a>
+    requires call { IsCall line.now }
+    requires fits { CallFits line.now }
+    requires room { length buffer.old.items ≡ MOST_BYTES }
+    requires there { IsSome held.old }
+    requires unspoilt { (held_by D.state held.old).device.spoilt ≡ false }
+    requires few { opened_on (held_by D.state held.old).volume < 2 ^ 63 }
+    requires numbered { AreNumbered (held_by D.state held.old) numbers.old.items }
+    ensures means { (entropy : List ℕ) → Means line_now (line_meant line.now) result buffer.new.items entropy
+        (held_by D.state held.old) (held_by D.state held.new) numbers.old.items numbers.new.items }
+    ensures room { length buffer.new.items ≡ MOST_BYTES }
+    ensures there { IsSome held.new }
+{
+    match held {
+        Some(Held::Mounted(volume)) => calls::answer(volume, numbers, buffer, line),
+        Some(Held::Bare(_)) => Reply::NotMounted,
+        None => Reply::NotMounted,
+    }
+}
+
+/// Does what a line asks for.
+fn answer<'a, D: Zoned + Drop>(
+    alloc: Global,
+    held: &mut Option<Held<D>>,
+    numbers: &mut Vec<Option<Handle>>,
+    buffer: &mut Vec<u8>,
+    entropy: &[u8; 16],
+    line: &Line<'a>,
+) -> Reply<'a>
+    requires fits { CallFits line.now }
+    requires room { length buffer.old.items ≡ MOST_BYTES }
+    requires there { IsSome held.old }
+    requires unspoilt { (held_by D.state held.old).device.spoilt ≡ false }
+    requires few { opened_on (held_by D.state held.old).volume < 2 ^ 63 }
+    requires numbered { AreNumbered (held_by D.state held.old) numbers.old.items }
+    ensures means { Means line_now (line_meant line.now) result buffer.new.items entropy.now
+        (held_by D.state held.old) (held_by D.state held.new) numbers.old.items numbers.new.items }
+    ensures room { length buffer.new.items ≡ MOST_BYTES }
+    ensures there { IsSome held.new }
+{
+    match line {
+        Line::Mkfs(words) => mkfs(alloc, held, entropy, words),
+        Line::Mount(text) => mount(alloc, held, *text),
+        Line::Umount => umount(held, numbers),
+        _ => call(held, numbers, buffer, line),
+    }
+}
+
+/// Does what a line asks for, and what its end does.
+fn carry_out<'a, D: Zoned + Drop>(
+    alloc: Global,
+    held: &mut Option<Held<D>>,
+    numbers: &mut Vec<Option<Handle>>,
+    buffer: &mut Vec<u8>,
+    entropy: &[u8; 16],
+    line: &Line<'a>,
+) -> Reply<'a>
+    requires fits { CallFits line.now }
+    requires room { length buffer.old.items ≡ MOST_BYTES }
+    requires there { IsSome held.old }
+    requires unspoilt { (held_by D.state held.old).device.spoilt ≡ false }
+    requires few { opened_on (held_by D.state held.old).volume < 2 ^ 63 }
+    requires numbered { AreNumbered (held_by D.state held.old) numbers.old.items }
+    ensures means { Means line_step (line_meant line.now) result buffer.new.items entropy.now
+        (held_by D.state held.old) (held_by D.state held.new) numbers.old.items numbers.new.items }
+    ensures room { length buffer.new.items ≡ MOST_BYTES }
+    ensures there { IsSome held.new }
+{
+    let reply = answer(alloc, held, numbers, buffer, entropy, line);
+    if !ends(&reply) {
+        drop_unpowered(held, numbers);
+    }
+    reply
+}
+
+impl<D: Zoned + Drop> Session<D> {
+    /// A session on a device, on which nothing is mounted. It is refused for want of memory alone.
+    pub fn new(alloc: Global, dev: D, entropy: [u8; 16]) -> Result<Session<D>, SessionFail<D>>
+        requires unspoilt { (D.state dev).spoilt ≡ false }
+        ensures begun { IfOk result (λ s. s ≡ begun (D.state dev) entropy) }
+        ensures failed { IfErr result (λ fail. D.state fail.dev ≡ D.state dev) }
     {
-        let step = say(sink, &Reply::NotMounted, &[]);
-        self.is_over = stops(step);
-        step
+        let Ok((numbers, buffer)) = take_room(alloc) else {
+            return Err(SessionFail { dev });
+        };
+        Ok(Session {
+            alloc,
+            held: Some(Held::Bare(dev)),
+            numbers,
+            buffer,
+            entropy,
+            is_over: false,
+            steps: 0,
+        })
     }
 
-    /// Carries out a line on the mounted volume. Without power at its end the volume is gone.
-    fn carry_out_mounted<K: Sink>(&mut self, line: &Line<'_>, sink: &mut K) -> Step
-        requires fits { CallFits line.now }
-        requires mounted { self.old.is_mounted ≡ true }
-        requires goes_on { self.old.over ≡ false }
-        ensures { StepMeans result (Ok (Some (line_meant line.now)))
-            (state_of (table_in self.old) self.old.over self.old.breaks (K.written sink.old) (K.faults sink.old))
-            (state_of (table_in self.new) self.new.over self.new.breaks (K.written sink.new) (K.faults sink.new)) }
+    /// The device.
+    pub fn device(&self) -> &D
+        ensures { D.state result.now ≡ self.now.held.device }
     {
-        let breaks = self.volume.breaks();
-        let reply = answer(&mut self.volume, &mut self.numbers, &mut self.buffer, line);
-        if ends(&reply) {
-            self.is_over = true;
-            return ending(&reply, self.volume.breaks() != breaks);
-        }
-        self.is_mounted = self.volume.powered();
-        let step = say(sink, &reply, &self.buffer);
-        self.is_over = stops(step);
-        step
+        device(&self.held)
+    }
+
+    /// Gives the device back. No command is issued; what was mounted is gone.
+    pub fn into_device(self) -> D
+        ensures { D.state result ≡ self.held.device }
+    {
+        let Session { held, .. } = self;
+        into_device(held)
+    }
+
+    /// Carries out a line of the grammar without writing its reply. It answers whether lines may follow: not where the
+    /// device is broken, or where memory is wanting.
+    pub fn perform(&mut self, line: &Line<'_>) -> bool
+        requires fits { CallFits line.now }
+        requires goes_on { self.old.over ≡ false }
+        requires few { self.old.steps < 2 ^ 62 }
+        ensures { Performed result (line_meant line.now) self.old self.new }
+    {
+        self.steps += 1;
+        let reply = carry_out(
+            self.alloc,
+            &mut self.held,
+            &mut self.numbers,
+            &mut self.buffer,
+            &self.entropy,
+            line,
+        );
+        self.is_over = ends(&reply);
+        !self.is_over
     }
 
     /// Carries out a line of the grammar.
     fn carry_out<K: Sink>(&mut self, line: &Line<'_>, sink: &mut K) -> Step
         requires fits { CallFits line.now }
         requires goes_on { self.old.over ≡ false }
-        ensures { StepMeans result (Ok (Some (line_meant line.now)))
-            (state_of (table_in self.old) self.old.over self.old.breaks (K.written sink.old) (K.faults sink.old))
-            (state_of (table_in self.new) self.new.over self.new.breaks (K.written sink.new) (K.faults sink.new)) }
+        requires few { self.old.steps < 2 ^ 62 }
+        ensures { Stepped result (Ok (Some (line_meant line.now)))
+            (state_of (machine_of self.old) (K.state sink.old)) (state_of (machine_of self.new) (K.state sink.new)) }
     {
-        if self.is_mounted {
-            self.carry_out_mounted(line, sink)
-        } else {
-            self.carry_out_bare(line, sink)
+        self.steps += 1;
+        let before = breaks(&self.held);
+        let reply = carry_out(
+            self.alloc,
+            &mut self.held,
+            &mut self.numbers,
+            &mut self.buffer,
+            &self.entropy,
+            line,
+        );
+        if ends(&reply) {
+            self.is_over = true;
+            return ending(breaks(&self.held) != before, &reply);
         }
+        let step = say(sink, &reply, &self.buffer);
+        self.is_over = stops(step);
+        step
+    }
+
+    /// Counts a line that asks for nothing.
+    fn pass(&mut self, step: Step) -> Step
+        requires { self.old.steps < 2 ^ 62 }
+        ensures step { result ≡ step }
+        ensures counted { self.new ≡ record self.old { steps = self.old.steps + 1 } }
+    {
+        self.steps += 1;
+        step
     }
 }
 
-impl<D: Tells + Drop> Machine for Session<D> {
-    ghost table = { table_in };
-
-    ghost break_count = { λ s. s.breaks };
-
-    ghost is_over = { λ s. s.over };
+impl<D: Zoned + Drop> Machine for Session<D> {
+    ghost state = { machine_of };
 
     fn step<K: Sink>(&mut self, line: &[u8], sink: &mut K) -> Step {
         match parse(line) {
             Ok(Some(line)) => self.carry_out(&line, sink),
-            Ok(None) => Step::Done,
-            Err(column) => Step::BadLine(column),
+            Ok(None) => self.pass(Step::Done),
+            Err(column) => self.pass(Step::BadLine(column)),
         }
     }
 }

@@ -1,13 +1,13 @@
 use Rattle.std.proofs.Common.{sym, subst, List, Option}
 use Rattle.zn_model.specs.declared.handles.Handle.{Handle}
-use Rattle.zn_model.specs.Lines.{SizeOf}
+use Rattle.zn_lines.specs.Lines.{SizeOf}
 use Rattle.zn_script.specs.Meant.{line_meant}
 use Rattle.zn_script.specs.declared.Line.{Line}
 use Rattle.zn_session.specs.Steps.{Answers}
 use Rattle.zn_session.proofs.calls.answer.Goals as goal
 
 pub returns-in-Open-clause-answers : goal.returns-in-Open-clause-answers
-returns-in-Open-clause-answers g c = subst (λ (line : Line). Answers (line_meant line) c.open.result c.args.buffer.now.items c.args.volume.now c.open.new.volume c.args.numbers.now.items c.open.new.numbers.items) (sym c.in-Open.is) (c.open.ensures.answers _)
+returns-in-Open-clause-answers g c = subst (λ (line : Line). Answers (line_meant line) c.open.result c.args.buffer.now.items c.args.volume.now c.open.new.volume c.args.numbers.now.items c.open.new.numbers.items) (sym c.in-Open.is) (c.open.ensures _)
 
 pub returns-in-Close-clause-answers : goal.returns-in-Close-clause-answers
 returns-in-Close-clause-answers g c = subst (λ (line : Line). Answers (line_meant line) c.close.result c.args.buffer.now.items c.args.volume.now c.close.new.volume c.args.numbers.now.items c.close.new.numbers.items) (sym c.in-Close.is) (c.close.ensures _)

@@ -1,7 +1,6 @@
 use Rattle.std.proofs.Common.{refl, sym, subst}
 use Rattle.zn_model.specs.declared.answers.Refusal.{Refusal}
-use Rattle.zn_model.specs.Lines.{Changes}
-use Rattle.zn_script.specs.Meant.{change_meant}
+use Rattle.zn_lines.specs.Lines.{Changes}
 use Rattle.zn_session.specs.Steps.{Answers}
 use Rattle.zn_session.specs.declared.replies.Reply.TheVariants.{Refused}
 use Rattle.zn_session.proofs.Answering.{still}
@@ -10,5 +9,5 @@ use Rattle.zn_session.proofs.calls.change.Goals as goal
 
 pub returns : goal.returns
 returns g c = λ buffer numbers numbered.
-    subst (λ (refusal : Refusal). Answers (Changes (change_meant c.args.change)) (Refused refusal) buffer c.args.volume.now c.args.volume.now numbers numbers) (sym c.change.ensures)
-    (still tt (change_step _ numbers _) refl numbered c.requires.unspoilt)
+    subst (λ (refusal : Refusal). Answers (Changes c.args.change) (Refused refusal) buffer c.args.volume.now c.args.volume.now numbers numbers) (sym c.change.ensures)
+    (still tt (change_step _ _ numbers _) refl numbered c.requires.unspoilt)

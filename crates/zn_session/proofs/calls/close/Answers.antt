@@ -1,5 +1,5 @@
 use Rattle.std.proofs.Common.{◌≡◌, None, Some, refl, sym, ap, ◌∙◌, arith}
-use Rattle.zn_session.specs.Seen.{number_at}
+use Rattle.zn_session.specs.SessionState.{number_at}
 use Rattle.zn_session.proofs.Answering.{still}
 use Rattle.zn_session.proofs.LineSteps.{close_free}
 use Rattle.zn_session.proofs.Opening.{closed_answers, busy_answers}
@@ -9,7 +9,7 @@ pub returns-in_default : goal.returns-in_default
 returns-in_default g c = λ buffer.
     let same = c.handle_of.ensures ∙ ap (λ numbers. number_at numbers c.args.number) c.deref.ensures.value in
     let free : number_at c.args.numbers.now.items c.args.number ≡ None = sym same ∙ c.in_default.is in
-    still tt (close_free _ _ _ free) refl c.requires.numbered c.requires.unspoilt
+    still tt (close_free _ _ _ _ free) refl c.requires.numbered c.requires.unspoilt
 
 pub returns-then-is_busy : goal.returns-then-is_busy
 returns-then-is_busy g c = λ buffer.

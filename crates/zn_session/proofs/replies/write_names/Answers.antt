@@ -2,7 +2,7 @@ use Rattle.std.proofs.Common.{arith, rules, refl, Err}
 use Rattle.std.proofs.lemmas.Grind.{common_steps}
 use Rattle.std.specs.List.{flat_map}
 use Rattle.zn_base.proofs.ToldLaws.{writes_cut}
-use Rattle.zn_model.specs.ReplyTexts.{name_line}
+use Rattle.zn_lines.specs.ReplyTexts.{name_line}
 use Rattle.zn_model.specs.ZoneFiles.{names_to}
 use Rattle.zn_session.proofs.ReplyLaws.{writes_as, listed, so_far_more, so_far_cut, all_named}
 use Rattle.zn_session.proofs.replies.write_names.Goals as goal

@@ -1,0 +1,179 @@
+ghost use Rattle.std.specs.Prelude.{◌≡◌, IfOk, false};
+ghost use Rattle.zn_device.specs.Memory.{state_of};
+
+use crate::Session;
+use std::alloc::Global;
+use std::process::Abort;
+use std::test::Fail;
+use zn_base::memory::{MemSink, MemSource};
+use zn_device::{MemDevice, Quiet, Zoned};
+use zn_model::{Mode, Who};
+use zn_run::{Status, run};
+use zn_script::{FormatWords, Line};
+use zn_truth::{Kind, Shape};
+
+/// A new device of four zones of two blocks each: the first of this kind, a conventional one, and two sequential ones.
+fn device(alloc: Global, first: Kind) -> Result<MemDevice, Fail>
+    ensures { IfOk result (λ dev. (state_of dev).spoilt ≡ false) }
+{
+    let shape = Shape {
+        zone_blocks: 2,
+        zone_capacity: 2,
+        max_open: 0,
+        max_active: 0,
+    };
+    let kinds = [
+        first,
+        Kind::Conventional,
+        Kind::Sequential,
+        Kind::Sequential,
+    ];
+    Ok(MemDevice::new(alloc, &kinds, shape)?)
+}
+
+/// Carries out a script on a new session, and looks at its replies.
+fn tells<D: Zoned + Drop>(
+    rt: &impl Abort,
+    alloc: Global,
+    dev: D,
+    script: &str,
+    told: &str,
+) -> Result<(), Fail>
+    requires { (D.state dev).spoilt ≡ false }
+{
+    let Ok(mut session) = Session::new(alloc, dev, [0; 16]) else {
+        panic!(rt; "no memory")
+    };
+    let mut bytes = Vec::new(alloc);
+    bytes.extend_from_slice(script.as_bytes())?;
+    let mut source = MemSource::new(bytes, Vec::new(alloc));
+    let mut sink = MemSink::new(alloc, 2000, Vec::new(alloc))?;
+    let status = run(alloc, &mut session, &mut source, &mut sink);
+    assert_eq!(rt; sink.bytes(), told.as_bytes());
+    assert_eq!(rt; status, Status::Done);
+    Ok(())
+}
+
+#[test]
+fn a_session_begins_without_a_volume(rt: HostRuntime) -> Result<(), Fail> {
+    let alloc = rt.alloc();
+    tells(
+        &rt,
+        alloc,
+        device(alloc, Kind::Conventional)?,
+        "size 0\nopen 0 seq/0 rw\nstat /\ncreate a\numount\nmount\n",
+        "error not-mounted\nerror not-mounted\nerror not-mounted\nerror not-mounted\nerror not-mounted\n\
+         error not-formatted bad-magic\n",
+    )?;
+    tells(
+        &rt,
+        alloc,
+        device(alloc, Kind::Sequential)?,
+        "mount\n",
+        "error not-formatted zone0-not-full\n",
+    )
+}
+
+/// The label is read first, then the identifier, then the features; and the options of a mount before its commands.
+#[test]
+fn faulty_texts_are_told(rt: HostRuntime) -> Result<(), Fail> {
+    let alloc = rt.alloc();
+    tells(
+        &rt,
+        alloc,
+        device(alloc, Kind::Conventional)?,
+        "mkfs features=x uuid=x label=12345678901234567890123456789012345678901234567890123456789012345\n\
+         mkfs features=x uuid=x\n\
+         mkfs features=uid=1,x\n\
+         mkfs features=uid=1,uid=2\n\
+         mount errors=none\n\
+         mount explicit-open,explicit-open\n",
+        "error bad-label\nerror bad-uuid\nerror unknown-option 6\nerror repeated-option 6\n\
+         error bad-value 7\nerror repeated-option 14\n",
+    )
+}
+
+#[test]
+fn formats_mounts_and_unmounts(rt: HostRuntime) -> Result<(), Fail> {
+    let alloc = rt.alloc();
+    let script =
+        "mkfs label=data uuid={6ba7b810-9dad-11d1-80b4-00c04fd430c8} features=uid=7,perm=600\n\
+                  mkfs\n\
+                  mkfs force features=uid=7,gid=8,perm=640\n\
+                  mount\n\
+                  mount\n\
+                  mkfs force\n\
+                  open 0 seq/0 rw uid=1\n\
+                  open 0 seq/0 r uid=1 gid=8\n\
+                  open 0 seq/0 rw\n\
+                  open 1 seq/0 rw uid=7\n\
+                  write 1 0 61*4096\n\
+                  umount\n\
+                  close 0\n\
+                  close 1\n\
+                  umount\n\
+                  umount\n\
+                  close 1\n\
+                  mount explicit-open\n\
+                  close 1\n\
+                  open 1 seq/0 r\n\
+                  read 1 4095 2\n";
+    let told = "ok\n\
+                error already-formatted\n\
+                ok\n\
+                ok\n\
+                error already-mounted\n\
+                error already-mounted\n\
+                error denied\n\
+                ok\n\
+                error handle-in-use\n\
+                ok\n\
+                ok\n\
+                error busy\n\
+                ok\n\
+                ok\n\
+                ok\n\
+                error not-mounted\n\
+                error not-mounted\n\
+                ok\n\
+                error bad-handle\n\
+                ok\n\
+                ok 1 61*1\n";
+    tells(&rt, alloc, device(alloc, Kind::Conventional)?, script, told)?;
+    tells(&rt, alloc, device(alloc, Kind::Sequential)?, script, told)
+}
+
+/// A device that doesn't tell its bytes is formatted, mounted and read.
+#[test]
+fn a_quiet_device_is_read(rt: HostRuntime) -> Result<(), Fail> {
+    let alloc = rt.alloc();
+    tells(
+        &rt,
+        alloc,
+        Quiet {
+            dev: device(alloc, Kind::Conventional)?,
+        },
+        "mkfs\nmount\nopen 0 seq/0 rw\nwrite 0 0 61*4096\nread 0 4090 100\nread 0 5000 4\nread 0 9000 4\nsize 0\n",
+        "ok\nok\nok\nok\nok 6 61*6\nok 0\nerror too-big\nok 4096\n",
+    )
+}
+
+/// Lines without replies: the device has what they left, and gives it to another session.
+#[test]
+fn lines_are_performed(rt: HostRuntime) -> Result<(), Fail> {
+    let alloc = rt.alloc();
+    let Ok(mut session) = Session::new(alloc, device(alloc, Kind::Conventional)?, [1; 16]) else {
+        panic!(&rt; "no memory")
+    };
+    let words = FormatWords {
+        force: false,
+        label: None,
+        uuid: None,
+        features: None,
+    };
+    let root = Who { uid: 0, gid: 0 };
+    assert!(&rt; session.perform(&Line::Mkfs(words)));
+    assert!(&rt; session.perform(&Line::Mount(None)));
+    assert!(&rt; session.perform(&Line::Open(0, "seq/0", Mode::READ_WRITE, root)));
+    Ok(())
+}
