@@ -1,3 +1,3 @@
 pub mod KindLists
-pub mod Mounting
+pub mod Calls
 pub mod Beginning

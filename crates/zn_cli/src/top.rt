@@ -1,95 +1,115 @@
 // The top call.
-ghost use Rattle.std.specs.Prelude.{◌≡◌, false, map, Some, IfOk, string_bytes};
-ghost use Rattle.zn_model.specs.Scratch.{command_of, scratch_table};
-ghost use Rattle.zn_run.specs.Headline.{Closed};
-ghost use Rattle.zn_session.specs.Seen.{table_in};
-ghost use Rattle.zn_cli.specs.Scratch.{scratch_of, IsWithin};
-ghost use Rattle.zn_cli.specs.Top.{Called, StatusCauses};
+ghost use Rattle.std.specs.Prelude.{◌≡◌, ◌<◌, ◌^◌, true, false, map, Some, IfOk, string_bytes};
+ghost use Rattle.zn_lines.specs.Scratch.{command_of, scratch_lines};
+ghost use Rattle.zn_session.specs.SessionState.{machine_of, table_in};
+ghost use Rattle.zn_cli.specs.Scratch.{scratch_machine, CarriesOn, IsWithin};
+ghost use Rattle.zn_cli.specs.Top.{Called, StatusCauses, AcceptedRuns, streams_of};
 
-use crate::device::mounted;
-use crate::words::{Scratch, parse};
+use crate::device::device;
+use crate::words::parse;
 use std::alloc::{AllocError, Global};
-use zn_base::{Sink, Source, write_all};
+use zn_base::{Sink, Source};
 use zn_device::MemDevice;
-use zn_model::Mode;
-use zn_run::{Status, run};
+use zn_lines::Scratch;
+use zn_model::{Mode, Who};
+use zn_run::{Status, end_starved, end_with, run};
+use zn_script::{FormatWords, Line};
 use zn_session::Session;
 
-/// Writes the last line of a call, which ends with this status.
-fn close<K: Sink>(sink: &mut K, line: &[u8], status: Status) -> Status
-    ensures { Closed result status line.now
-        (K.written sink.old) (K.written sink.new) (K.faults sink.old) (K.faults sink.new) }
+/// A device in memory never fails, and its commands take no memory.
+fn is_calm(session: &Session<MemDevice>)
+    ensures whole { session.now.held.device.breaks ≡ 0 }
+    ensures memory { session.now.held.device.takes_memory ≡ false }
 {
-    match write_all(sink, line) {
-        Ok(()) => status,
-        Err(_) => Status::WriteFault,
-    }
+    session.device();
 }
 
-/// A session on a new device in memory, with `seq/0` open by number 0 where that is there.
-fn session(alloc: Global, scratch: Scratch) -> Result<Session<MemDevice>, AllocError>
-    requires { IsWithin (scratch_of scratch) }
-    ensures table { IfOk result (λ s. table_in s ≡ scratch_table (scratch_of scratch)) }
-    ensures goes_on { IfOk result (λ s. s.over ≡ false) }
+/// Formats the device with the defaults, mounts it, and opens `seq/0` by number 0 where that is there. It answers
+/// whether all of this was done: not where memory is wanting.
+fn begin(session: &mut Session<MemDevice>) -> bool
+    requires goes_on { session.old.over ≡ false }
+    requires few { session.old.steps < 2 ^ 61 }
+    ensures { result ≡ true → (table_in session.old).world.truth.told ≡ true
+        → CarriesOn scratch_lines session.old session.new }
 {
-    let volume = mounted(alloc, scratch)?;
-    let mut session = Session::new(alloc, volume)?;
-    if session.open(0, b"seq/0", Mode::READ_WRITE) {
-        Ok(session)
-    } else {
-        Err(AllocError)
+    let nothing = FormatWords {
+        force: false,
+        label: None,
+        uuid: None,
+        features: None,
+    };
+    let root = Who { uid: 0, gid: 0 };
+    if !session.perform(&Line::Mkfs(nothing)) {
+        return false;
     }
+    if !session.perform(&Line::Mount(None)) {
+        return false;
+    }
+    session.perform(&Line::Open(0, "seq/0", Mode::READ_WRITE, root))
 }
 
-/// A device in memory never fails.
-fn is_whole(session: &Session<MemDevice>)
-    ensures { session.now.breaks ≡ 0 }
+/// A session on a new device in memory, formatted and mounted, with `seq/0` open by number 0 where that is there.
+fn session(
+    alloc: Global,
+    scratch: Scratch,
+    entropy: [u8; 16],
+) -> Result<Session<MemDevice>, AllocError>
+    requires { IsWithin scratch }
+    ensures { IfOk result (λ s. machine_of s ≡ scratch_machine scratch entropy) }
 {
-    session.volume().device();
+    let device = device(alloc, scratch)?;
+    let Ok(mut session) = Session::new(alloc, device, entropy) else {
+        return Err(AllocError);
+    };
+    let begun = begin(&mut session);
+    is_calm(&session);
+    if begun { Ok(session) } else { Err(AllocError) }
 }
 
 /// Carries out the script that a source gives, on a new device in memory.
 fn run_scratch<S: Source, K: Sink>(
     alloc: Global,
     scratch: Scratch,
+    entropy: [u8; 16],
     source: &mut S,
     sink: &mut K,
 ) -> Status
-    requires { IsWithin (scratch_of scratch) }
-    ensures { Called (Some (scratch_of scratch)) result (S.left source.old) (S.left source.new)
-        (S.faults source.old) (S.faults source.new)
-        (K.written sink.old) (K.written sink.new) (K.faults sink.old) (K.faults sink.new) }
+    requires { IsWithin scratch }
+    ensures { Called (Some scratch) entropy result
+        (streams_of (S.state source.old) (K.state sink.old)) (streams_of (S.state source.new) (K.state sink.new)) }
 {
-    match session(alloc, scratch) {
+    match session(alloc, scratch, entropy) {
         Ok(mut session) => {
-            is_whole(&session);
             let status = run(alloc, &mut session, source, sink);
-            is_whole(&session);
+            is_calm(&session);
             status
         }
-        Err(_) => close(sink, b"out-of-memory\n", Status::Memory),
+        Err(_) => end_starved(sink),
     }
 }
 
 /// Does what the words of a command line ask for, but for the program's name.
 ///
-/// `scratch ZONES CONV BLOCKS` makes a device in memory, opens `seq/0` for reading and writing as number 0 where that is
-/// there, and carries out the script that the source gives; the replies and a last line go to the sink. All other words
-/// are a bad command line.
+/// `scratch ZONES CONV BLOCKS` makes a device in memory, formats it with the defaults and mounts it, opens `seq/0` for
+/// reading and writing as number 0 where that is there, and carries out the script that the source gives; the replies
+/// and a last line go to the sink. All other words are a bad command line. Where a format is asked for that names no
+/// identifier, that is made of the sixteen bytes of entropy.
 pub fn zonefs_main<S: Source, K: Sink>(
     alloc: Global,
     words: &[String],
+    entropy: [u8; 16],
     source: &mut S,
     sink: &mut K,
 ) -> Status
-    ensures called { Called (command_of (map string_bytes words.now)) result (S.left source.old) (S.left source.new)
-        (S.faults source.old) (S.faults source.new)
-        (K.written sink.old) (K.written sink.new) (K.faults sink.old) (K.faults sink.new) }
-    ensures causes { StatusCauses (command_of (map string_bytes words.now)) result (S.left source.new)
-        (S.faults source.old) (S.faults source.new) (K.faults sink.old) (K.faults sink.new) }
+    ensures called { Called (command_of (map string_bytes words.now)) entropy result
+        (streams_of (S.state source.old) (K.state sink.old)) (streams_of (S.state source.new) (K.state sink.new)) }
+    ensures causes { StatusCauses (command_of (map string_bytes words.now)) entropy result
+        (streams_of (S.state source.old) (K.state sink.old)) (streams_of (S.state source.new) (K.state sink.new)) }
+    ensures accepted { AcceptedRuns (command_of (map string_bytes words.now)) entropy result
+        (streams_of (S.state source.old) (K.state sink.old)) (streams_of (S.state source.new) (K.state sink.new)) }
 {
     match parse(words) {
-        Some(scratch) => run_scratch(alloc, scratch, source, sink),
-        None => close(sink, b"zonefs: bad command line\n", Status::Usage),
+        Some(scratch) => run_scratch(alloc, scratch, entropy, source, sink),
+        None => end_with(sink, b"zonefs: bad command line\n", Status::Usage),
     }
 }

@@ -9,6 +9,9 @@ use zn_run::Status;
 /// How many bytes a sink has room for.
 const ROOM: usize = 8192;
 
+/// The bytes from which identifiers are made.
+const ENTROPY: [u8; 16] = [0xA5; 16];
+
 /// A command line, a script, and how the run ends.
 #[derive(Clone, Copy)]
 struct Case {
@@ -54,7 +57,7 @@ fn ends_so<R: Abort + Copy>(
 ) -> Result<(), Fail> {
     let list = words_of(alloc, words)?;
     let mut sink = MemSink::new(alloc, ROOM, Vec::new(alloc))?;
-    let got = zonefs_main(alloc, &list, source, &mut sink);
+    let got = zonefs_main(alloc, &list, ENTROPY, source, &mut sink);
     assert_eq!(&rt; sink.bytes(), written.as_bytes(), "{words}: {written}");
     assert_eq!(&rt; got, status, "{words}: {written}");
     Ok(())
@@ -201,6 +204,136 @@ fn conventional_files_keep_their_size(rt: HostRuntime) -> Result<(), Fail> {
 }
 
 #[test]
+fn volumes_are_mounted_anew(rt: HostRuntime) -> Result<(), Fail> {
+    for case in [
+        done(
+            "scratch 4 1 2",
+            "open 0 seq/1 r\nopen 1 seq/1 r\nwrite 1 0 61*4096\nclose 2\nstat seq/00\nchmod seq/0 777\n\
+             umount\nmount\n",
+            "error handle-in-use\nok\nerror bad-mode\nerror bad-handle\nerror no-such-file\nerror not-allowed\n\
+             error busy\nerror already-mounted\n",
+        ),
+        done(
+            "scratch 4 1 2",
+            "close 0\numount\nmount errors=panic\nmount explicit-open,foo\nmount explicit-open,explicit-open\n\
+             size 0\n",
+            "ok\nok\nerror bad-value 7\nerror unknown-option 14\nerror repeated-option 14\n\
+             error not-mounted\n",
+        ),
+        // What was written is there after the mount, and no number has a handle.
+        done(
+            "scratch 4 2 2",
+            "write 0 0 61*4096\nopen 1 cnv/0 w\nwrite 1 4096 62*4096\nclose 1\nclose 0\numount\numount\n\
+             list /\nstat seq/0\nmkfs\nmount errors=zone-ro,explicit-open\nsize 0\nopen 5 seq/0 rw\n\
+             size 5\nread 5 4095 9\nwrite 5 4096 63*4096\nopen 6 cnv/0 r\nread 6 4095 2\n",
+            "ok\nok\nok\nok\nok\nok\nerror not-mounted\n\
+             error not-mounted\nerror not-mounted\nerror already-formatted\nok\nerror bad-handle\nok\n\
+             ok 4096\nok 1 61*1\nok\nok\nok 2 00*1+62*1\n",
+        ),
+        // A format empties sequential files, and no others.
+        done(
+            "scratch 4 2 2",
+            "write 0 0 61*8192\nopen 1 cnv/0 w\nwrite 1 0 62*4096\nmkfs force\nclose 0\nclose 1\numount\n\
+             mkfs force\nmount\nopen 0 seq/0 rw\nsize 0\nopen 1 cnv/0 r\nread 1 4095 2\n",
+            "ok\nok\nok\nerror already-mounted\nok\nok\nok\n\
+             ok\nok\nok\nok 0\nok\nok 2 62*1+00*1\n",
+        ),
+        // The super block's zone is sequential, and full.
+        done(
+            "scratch 2 0 3",
+            "stat seq/0\nclose 0\numount\nmkfs\nmkfs force\nmount\nstat seq/0\n",
+            "ok file seq/0 zone 1 zones 1 size 0 blocks 24 mode 640 uid 0 gid 0 writers 1\n\
+             ok\nok\nerror already-formatted\nok\nok\n\
+             ok file seq/0 zone 1 zones 1 size 0 blocks 24 mode 640 uid 0 gid 0 writers 0\n",
+        ),
+    ] {
+        runs(rt, rt.alloc(), case)?;
+    }
+    Ok(())
+}
+
+#[test]
+fn zones_are_joined_and_owned(rt: HostRuntime) -> Result<(), Fail> {
+    for case in [
+        done(
+            "scratch 6 4 2",
+            "close 0\numount\nmkfs force features=aggr_cnv,uid=7,gid=8,perm=640\nmount\nlist cnv\n\
+             stat cnv/0\nopen 0 cnv/0 rw uid=9 gid=8\nopen 0 cnv/0 r uid=9 gid=8\nopen 1 cnv/0 rw uid=7\n\
+             write 1 4096 61*8192\nread 0 8191 2\nread 0 12287 2\n",
+            "ok\nok\nok\nok\nok 1\n0\n\
+             ok file cnv/0 zone 1 zones 3 size 24576 blocks 48 mode 640 uid 7 gid 8 writers 0\n\
+             error denied\nok\nok\nok\nok 2 61*2\nok 2 61*1+00*1\n",
+        ),
+        // Each digit of the permissions speaks of others.
+        done(
+            "scratch 4 1 2",
+            "close 0\numount\nmkfs force features=uid=7,gid=8,perm=421\nmount\nstat seq/1\n\
+             open 0 seq/0 r uid=7 gid=8\nopen 1 seq/0 w uid=7 gid=8\nopen 1 seq/0 w uid=9 gid=8\n\
+             open 2 seq/0 r uid=9 gid=8\nopen 2 seq/0 r uid=9\nopen 2 seq/0 rw gid=8\n",
+            "ok\nok\nok\nok\n\
+             ok file seq/1 zone 2 zones 1 size 0 blocks 16 mode 421 uid 7 gid 8 writers 0\n\
+             ok\nerror denied\nok\nerror denied\nerror denied\nok\n",
+        ),
+        // One file again, without aggregation.
+        done(
+            "scratch 5 4 2",
+            "close 0\numount\nmkfs force features=aggr_cnv\nmount\nstat cnv\numount\nmkfs force\nmount\nstat cnv\n",
+            "ok\nok\nok\nok\nok dir cnv size 1\nok\nok\nok\nok dir cnv size 3\n",
+        ),
+    ] {
+        runs(rt, rt.alloc(), case)?;
+    }
+    Ok(())
+}
+
+/// What is asked of a format of a device that is formatted already, and the reply.
+#[test]
+fn formats_are_asked_for(rt: HostRuntime) -> Result<(), Fail> {
+    for (words, reply) in [
+        ("force", "ok"),
+        ("label=data", "error already-formatted"),
+        ("label=data force", "ok"),
+        (
+            "force label=0123456789012345678901234567890123456789012345678901234567890123",
+            "ok",
+        ),
+        (
+            "force label=01234567890123456789012345678901234567890123456789012345678901234",
+            "error bad-label",
+        ),
+        ("force uuid=6ba7b810-9dad-11d1-80b4-00c04fd430c8", "ok"),
+        ("uuid=6ba7b8109dad11d180b400c04fd430c8 force", "ok"),
+        ("force uuid={6ba7b810-9dad-11d1-80b4-00c04fd430c8}", "ok"),
+        (
+            "force uuid=urn:uuid:6BA7B810-9DAD-11D1-80B4-00C04FD430C8",
+            "ok",
+        ),
+        (
+            "force uuid=6ba7b810-9dad-11d1-80b4-00c04fd430c",
+            "error bad-uuid",
+        ),
+        ("force uuid=x features=foo", "error bad-uuid"),
+        ("features=uid=1,uid=2", "error repeated-option 6"),
+        ("features=uid=1,perm=1777", "error bad-value 11"),
+        ("features=aggr_cnv,", "error unknown-option 9"),
+        ("features=perm=7,gid=4294967295 force", "ok"),
+    ] {
+        let script = format!(in rt.alloc(); "close 0\numount\nmkfs {words}\nmount\n")?;
+        let written = format!(in rt.alloc(); "ok\nok\n{reply}\nok\n")?;
+        let mut source = source_of(rt.alloc(), script.as_bytes(), &[])?;
+        ends_so(
+            rt,
+            rt.alloc(),
+            "scratch 4 1 2",
+            &mut source,
+            Status::Done,
+            &written,
+        )?;
+    }
+    Ok(())
+}
+
+#[test]
 fn other_command_lines_are_refused(rt: HostRuntime) -> Result<(), Fail> {
     for words in [
         "scratch 4 1 1",
@@ -243,7 +376,7 @@ fn faults_end_runs(rt: HostRuntime) -> Result<(), Fail> {
     let words = words_of(alloc, "scratch 4 1 2")?;
     let mut source = source_of(alloc, b"size 0\nsize 0\n", &[])?;
     let mut sink = MemSink::new(alloc, ROOM, vec![in alloc; 1]?)?;
-    let got = zonefs_main(alloc, &words, &mut source, &mut sink);
+    let got = zonefs_main(alloc, &words, ENTROPY, &mut source, &mut sink);
     assert_eq!(rt; got, Status::WriteFault);
     assert_eq!(rt; sink.bytes().len(), 0);
     Ok(())
@@ -252,7 +385,18 @@ fn faults_end_runs(rt: HostRuntime) -> Result<(), Fail> {
 #[test]
 fn other_lines_are_refused(rt: HostRuntime) -> Result<(), Fail> {
     for line in [
-        "mount",
+        "mount a b",
+        "mount ",
+        "umount 0",
+        "mkfs force force",
+        "mkfs label=",
+        "mkfs uuid=1 label=a uuid=2",
+        "mkfs Force",
+        "open 1 seq/0 r gid=1 uid=1",
+        "open 1 seq/0 r uid=1 uid=1",
+        "open 1 seq/0 r uid=4294967296",
+        "open 1 seq/0 r gid=01",
+        "open 1 seq/0 r root",
         " size 0",
         "size 0 ",
         "size  0",
@@ -359,7 +503,7 @@ fn first_run(alloc: Global) -> Result<(Status, MemSink), AllocError> {
     let words = words_of(alloc, case.words)?;
     let mut source = source_of(alloc, case.script.as_bytes(), &[])?;
     let mut sink = MemSink::new(alloc, ROOM, Vec::new(alloc))?;
-    let status = zonefs_main(alloc, &words, &mut source, &mut sink);
+    let status = zonefs_main(alloc, &words, ENTROPY, &mut source, &mut sink);
     Ok((status, sink))
 }
 

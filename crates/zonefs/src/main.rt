@@ -2,12 +2,14 @@
 //! to standard output.
 #![tactic(auto)]
 
-ghost use Rattle.std.specs.Prelude.{◌≡◌};
+ghost use Rattle.std.specs.Prelude.{◌≡◌, ◌⊎◌, codes};
+ghost use Rattle.std.specs.Io.KnownBytes.{Appends};
 ghost use Rattle.std.specs.Process.{exit_status};
 ghost use Rattle.zn_run.specs.Statuses.{code_of};
 
 use std::io::{ErrorKind, Write};
 use std::process::ExitCode;
+use std::random::RandomSource;
 use std::{env, io};
 use zn_base::adapters::{ReaderSource, WriterSink};
 use zn_cli::zonefs_main;
@@ -20,12 +22,26 @@ fn words(rt: HostRuntime) -> io::Result<Vec<String>> {
     Ok(words.collect(rt.alloc())?)
 }
 
-/// Ends for want of memory before there is a sink. The line is written if it can be.
-fn starved(rt: HostRuntime) -> Status
-    ensures { result ≡ Status.Memory }
+/// Ends for want of memory before there is a sink. Where its line can't be written, a write failed.
+fn starved<W: Write>(writer: &mut W) -> Status
+    ensures one { (result ≡ Status.Memory) ⊎ (result ≡ Status.WriteFault) }
+    ensures told { result ≡ Status.Memory →
+        Appends (W.contents writer.old) (W.contents writer.new) (codes "out-of-memory\n") }
 {
-    let _ = rt.stdout().write_all(b"out-of-memory\n");
-    Status::Memory
+    if writer.write_all(b"out-of-memory\n").is_ok() && writer.flush().is_ok() {
+        Status::Memory
+    } else {
+        Status::WriteFault
+    }
+}
+
+/// Sixteen bytes of the machine's entropy, or zeros where it gives none.
+fn entropy<R: RandomSource>(rt: &R) -> [u8; 16] {
+    let mut bytes = [0; 16];
+    match rt.fill_bytes(&mut bytes) {
+        Ok(()) => bytes,
+        Err(_) => [0; 16],
+    }
 }
 
 /// Does what the command line asks for. A word that isn't UTF-8 fits no command, and neither do no words.
@@ -33,14 +49,14 @@ fn carry_out(rt: HostRuntime) -> Status {
     let alloc = rt.alloc();
     let words = match words(rt) {
         Ok(words) => words,
-        Err(error) if error.kind() == ErrorKind::OutOfMemory => return starved(rt),
+        Err(error) if error.kind() == ErrorKind::OutOfMemory => return starved(&mut rt.stdout()),
         Err(_) => Vec::new(alloc),
     };
     let Ok(mut sink) = WriterSink::new(alloc, rt.stdout()) else {
-        return starved(rt);
+        return starved(&mut rt.stdout());
     };
     let mut source = ReaderSource::new(rt.stdin());
-    zonefs_main(alloc, &words, &mut source, &mut sink)
+    zonefs_main(alloc, &words, entropy(&rt), &mut source, &mut sink)
 }
 
 /// How a run ended, as the exit status.

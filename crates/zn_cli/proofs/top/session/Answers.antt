@@ -1,8 +1,9 @@
-use Rattle.zn_session.specs.Seen.{table_in}
-use Rattle.zn_cli.specs.Scratch.{scratch_of}
-use Rattle.zn_cli.proofs.Beginning.{begins}
+use Rattle.zn_device.specs.Memory.{state_of}
+use Rattle.zn_cli.proofs.Beginning.{begins, session_told}
 use Rattle.zn_cli.proofs.top.session.Goals as goal
 
-pub returns-then-open-clause-table : goal.returns-then-open-clause-table
-returns-then-open-clause-table c = begins (scratch_of c.args.scratch) c.in_ok-volume.volume.mounted (table_in c.in_ok-session.session) (table_in c.open.new.self)
-    c.in_ok-volume.ensures.mounted c.in_ok-session.ensures.table c.in_ok-volume.ensures.unkeyed (c.open.ensures.table c.if-open.true)
+pub returns-then-begun : goal.returns-then-begun
+returns-then-begun c =
+    let told = session_told c.args.scratch c.args.entropy c.in-Ok.session (state_of c.in_ok-device.device) c.in_ok-device.ensures c.in-Ok.ensures.begun in
+    begins c.args.scratch c.args.entropy c.in-Ok.session c.begin-begun.new.session (state_of c.in_ok-device.device)
+    c.in_ok-device.ensures c.in-Ok.ensures.begun (c.begin-begun.ensures c.if-begun.true told) c.is_calm.ensures.whole c.is_calm.ensures.memory

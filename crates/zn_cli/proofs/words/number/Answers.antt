@@ -1,5 +1,5 @@
 use Rattle.std.proofs.Common.{sym, arith}
-use Rattle.zn_model.proofs.NumberWords.{decimal-number_in}
+use Rattle.zn_base.proofs.DecimalLaws.{decimal-number_in}
 use Rattle.zn_cli.proofs.words.number.Goals as goal
 
 pub overflow_cast-result : goal.overflow_cast-result
