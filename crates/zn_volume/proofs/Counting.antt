@@ -1,5 +1,5 @@
 -- The sequential files that are open for writing.
-use Rattle.std.proofs.Common.{◌≡◌, ℕ, zero, suc, ◌+◌, ◌-◌, ◌<◌, ◌≤◌, Bool, false, cond, List, ◌∷◌, length, refl, sym, ap, ◌∙◌, subst, arith, add-zero, zero-add, count_by, length-append}
+use Rattle.std.proofs.Common.{◌≡◌, ℕ, zero, suc, ◌+◌, ◌-◌, ◌<◌, ◌≤◌, Bool, true, false, cond, List, [], ◌∷◌, length, refl, sym, ap, ◌∙◌, subst, arith, add-zero, zero-add, count_by, length-append}
 use Rattle.std.specs.Prelude.{◌&&◌, nat_lt}
 use Rattle.std.specs.List.{range_with_len}
 use Rattle.std.proofs.lemmas.List.Sums.{sum_by-cons}
@@ -60,3 +60,15 @@ wro_alike w inodes seen infos scratch agrees =
     let moved : count_by p (range_with_len (0 + seen.cnv) (n - seen.cnv)) ≡ count_by p (range_with_len seen.cnv (n - seen.cnv)) = ap (λ (k : ℕ). count_by p (range_with_len k (n - seen.cnv))) at in
     let known : count_by q (range_with_len seen.cnv (seen.files - seen.cnv)) ≡ count_by q (range_with_len seen.cnv (n - seen.cnv)) = ap (λ (k : ℕ). count_by q (range_with_len seen.cnv (k - seen.cnv))) agrees.known in
     omega (arith, first, rest, split, moved, known)
+
+-- a count of one number more
+count_more : (p : ℕ → Bool) (n : ℕ) → count_by p (range_with_len 0 (n + 1)) ≡ count_by p (range_with_len 0 n) + cond (p n) 1 0
+count_more p n =
+    subst (λ (k : ℕ). count_by p (range_with_len 0 (n + 1)) ≡ count_by p (range_with_len 0 n) + cond (p k) 1 0) (zero-add n)
+    (omega (arith, count_split p 0 n 1, count_cons p (0 + n) []))
+
+pub one_counted : (p : ℕ → Bool) (n : ℕ) → p n ≡ true → count_by p (range_with_len 0 (n + 1)) ≡ count_by p (range_with_len 0 n) + 1
+one_counted p n is = count_more p n ∙ ap (λ (b : Bool). count_by p (range_with_len 0 n) + cond b 1 0) is
+
+pub none_counted : (p : ℕ → Bool) (n : ℕ) → p n ≡ false → count_by p (range_with_len 0 (n + 1)) ≡ count_by p (range_with_len 0 n)
+none_counted p n is = count_more p n ∙ ap (λ (b : Bool). count_by p (range_with_len 0 n) + cond b 1 0) is ∙ add-zero _

@@ -1,5 +1,5 @@
 -- Why a call on a file answers `io-error`.
-use Rattle.std.proofs.Common.{◌≡◌, ◌⊎◌, ℕ, zero, suc, ◌+◌, ◌-◌, ◌*◌, ◌/◌, ◌<◌, ◌≤◌, Bool, true, false, List, [], ◌∷◌, ◌++◌, length, map, Option, Some, None, Ok, Err, refl, sym, ap, ◌∙◌, subst, inl, inr, arith, length-append}
+use Rattle.std.proofs.Common.{◌≡◌, ◌⊎◌, ℕ, ◌==◌, zero, suc, ◌+◌, ◌-◌, ◌*◌, ◌/◌, ◌<◌, ◌≤◌, Bool, true, false, List, [], ◌∷◌, ◌++◌, length, map, Option, Some, None, Ok, Err, refl, sym, ap, ◌∙◌, subst, inl, inr, arith, length-append}
 use Rattle.std.specs.Prelude.{Result, IsErrOf, IfSome, if◌then◌else◌, option_map}
 use Rattle.std.specs.List.{range_with_len}
 use Rattle.std.proofs.lemmas.Bool.{false≢true, cases_lt, lt-ltb, le-ltb}
@@ -14,9 +14,10 @@ use Rattle.zn_truth.specs.declared.DevError.TheVariants.{ReadOnly, Offline, Unal
 use Rattle.zn_truth.specs.declared.Kind.TheVariants.{Conventional, Sequential}
 use Rattle.zn_truth.specs.declared.Shape.{Shape}
 use Rattle.zn_truth.specs.declared.ZoneOp.{ZoneOp}
+use Rattle.zn_truth.specs.declared.ZoneOp.TheVariants.{Open as do_open, Reset, Finish}
 use Rattle.zn_truth.specs.FailureLaws.{FailsAt, IsNamedBy, HasNamedCondition, IsInRange}
 use Rattle.zn_truth.specs.Truth.{Truth, zone_at, is_good, is_offline, is_sequential, IsSound}
-use Rattle.zn_truth.specs.Orders.{Order, ReadAt, WriteAt, Manage, Reply}
+use Rattle.zn_truth.specs.Orders.{Order, ReadAt, WriteAt, Manage, FlushAll, Reply}
 use Rattle.zn_truth.specs.OrderLists.{each_zone, first_failure, issue_all}
 use Rattle.zn_truth.specs.World.{World, issue, geometry_of}
 use Rattle.zn_truth.proofs.Failures.{failure_named, failure_has_order, issue_all_keeps_zones, each_is_in_range}
@@ -33,6 +34,7 @@ use Rattle.zn_model.specs.Pieces.{piece, read_in, write_in, reads, writes, zone_
 use Rattle.zn_model.specs.Recovery.{is_passed_on, refusal_of}
 use Rattle.zn_model.specs.Volume.{Inodes, Live, file_at, shown_at}
 use Rattle.zn_model.specs.Reading.{read_end, read_area, read_orders}
+use Rattle.zn_model.specs.Truncating.{truncate_orders}
 use Rattle.zn_model.specs.Writing.{area_of}
 use Rattle.zn_model.specs.ZoneFiles.{kind_of, zone_room_of, capacity_of, files_of}
 use Rattle.zn_handle.specs.declared.handles.Open.{Open}
@@ -252,6 +254,11 @@ read_cause _ file shown from blocks old new sound is single within touched size 
 
 -- ---- zone commands
 
+-- the order manages this zone
+record Managing (z : ℕ) (order : Order) : Type 0 where
+  op : ZoneOp
+  is : order ≡ Manage z op
+
 -- an open or a close of a file's zone that fails
 pub manage_cause : (error : DevError) (op : ZoneOp) (file : FileZones) (shown : Shown) (old new : DeviceState) → IsFile (geometry_of old.world) file
     → Commanded (Manage file.first op) (Err error) old new → refusal_of error ≡ IoError → HasIoCause file shown old new
@@ -264,7 +271,47 @@ manage_cause Unaligned op file shown old new is h io = absurd (failure_named old
 manage_cause BeyondWp op file shown old new is h io = absurd (failure_named old.world (Manage file.first op) BeyondWp (sym (h.obeys.reply refl))).means
 manage_cause _ op file shown old new is h io = absurd (cc)
 
+-- every order of a truncation manages the file's zone
+all_manage : (z : ℕ) (ops : List ZoneOp) (before : List Order) (given : Order) (after : List Order) → map (λ op. Manage z op) ops ≡ before ++ given ∷ after → Managing z given
+all_manage z [] [] given after is = absurd (cc)
+all_manage z [] (order ∷ before) given after is = absurd (cc)
+all_manage z (op ∷ ops) [] given after is = record { op = op; is = cc }
+all_manage z (op ∷ ops) (order ∷ before) given after is = all_manage z ops before given after (cc)
+
+abbrev truncate_ops : Shown → ℕ → List ZoneOp
+truncate_ops shown size = if size == 0 then Reset ∷ (if shown.held_open then do_open ∷ [] else []) else Finish ∷ []
+
+truncate_manages : (file : FileZones) (shown : Shown) (size : ℕ) → map (λ op. Manage file.first op) (truncate_ops shown size) ≡ truncate_orders file shown size
+truncate_manages file shown size = by_size (size == 0) shown.held_open
+  where
+    by_size : (none held : Bool) → map (λ op. Manage file.first op) (if none then Reset ∷ (if held then do_open ∷ [] else []) else Finish ∷ []) ≡ (if none then Manage file.first Reset ∷ (if held then Manage file.first do_open ∷ [] else []) else Manage file.first Finish ∷ [])
+    by_size true true = refl
+    by_size true false = refl
+    by_size false true = refl
+    by_size false false = refl
+
+truncate_order : (w : World) (file : FileZones) (shown : Shown) (size : ℕ) (error : DevError) (fails : FailsAt w (truncate_orders file shown size) error) → Managing file.first fails.order
+truncate_order w file shown size error fails = all_manage file.first (truncate_ops shown size) fails.before fails.order fails.after (truncate_manages file shown size ∙ fails.parts)
+
 -- ---- calls
+
+-- a truncation that fails
+pub truncate_fails : (error : DevError) (file : FileZones) (shown before : Shown) (size : ℕ) (old new : DeviceState) → IsFile (geometry_of old.world) file
+    → Ordered (truncate_orders file shown size) (Err error) old new → refusal_of error ≡ IoError → HasIoCause file before old new
+truncate_fails Fault file shown before size old new is h io = inl (h.caused.cause.fault refl)
+truncate_fails ReadOnly file shown before size old new is h io =
+    let fails = failure_has_order old.world (truncate_orders file shown size) ReadOnly (sym (h.obeys.reply refl)) in
+    inr (inl (first_bad old.world.truth file read_only_zone is.some (subst (λ (o : Order). HasNamedCondition ReadOnly o old.world.truth) (truncate_order old.world file shown size ReadOnly fails).is fails.condition) refl))
+truncate_fails Offline file shown before size old new is h io =
+    let fails = failure_has_order old.world (truncate_orders file shown size) Offline (sym (h.obeys.reply refl)) in
+    inr (inl (first_bad old.world.truth file offline_zone is.some (subst (λ (o : Order). HasNamedCondition Offline o old.world.truth) (truncate_order old.world file shown size Offline fails).is fails.condition) refl))
+truncate_fails Unaligned file shown before size old new is h io =
+    let fails = failure_has_order old.world (truncate_orders file shown size) Unaligned (sym (h.obeys.reply refl)) in
+    absurd (subst (λ (o : Order). IsNamedBy Unaligned o (issue_all old.world fails.before).world.truth) (truncate_order old.world file shown size Unaligned fails).is fails.named.means)
+truncate_fails BeyondWp file shown before size old new is h io =
+    let fails = failure_has_order old.world (truncate_orders file shown size) BeyondWp (sym (h.obeys.reply refl)) in
+    absurd (subst (λ (o : Order). IsNamedBy BeyondWp o (issue_all old.world fails.before).world.truth) (truncate_order old.world file shown size BeyondWp fails).is fails.named.means)
+truncate_fails _ file shown before size old new is h io = absurd (cc)
 
 -- a write of these bytes that fails
 pub write_fails : (error : DevError) (file : FileZones) (shown : Shown) (offset : ℕ) (bytes : List ℕ) (old new : DeviceState) → IsFile (geometry_of old.world) file → (file.seq ≡ true → file.zones ≡ 1)
@@ -323,6 +370,21 @@ failed_io error refusal inodes f old mid new recovery why = record {
     | inr zones ↦ inr zones
   ];
 }
+
+-- a flush that fails: no condition refuses it, so there was a fault
+flush_cause : (error : DevError) (old new : DeviceState) → Commanded FlushAll (Err error) old new → refusal_of error ≡ IoError → Rose old.faults new.faults
+flush_cause Fault old new h io = h.caused.cause.fault refl
+flush_cause ReadOnly old new h io = absurd (failure_named old.world FlushAll ReadOnly (sym (h.obeys.reply refl))).means
+flush_cause Offline old new h io = absurd (failure_named old.world FlushAll Offline (sym (h.obeys.reply refl))).means
+flush_cause Unaligned old new h io = absurd (failure_named old.world FlushAll Unaligned (sym (h.obeys.reply refl))).means
+flush_cause BeyondWp old new h io = absurd (failure_named old.world FlushAll BeyondWp (sym (h.obeys.reply refl))).means
+flush_cause _ old new h io = absurd (cc)
+
+-- and what followed it
+pub flush_fails : {X : Type 0} (error : DevError) (refusal : Refusal) (old mid new : DeviceState) → RecoveryCause error refusal mid new → Commanded FlushAll (Err error) old mid
+    → IsErrOf {T = X} (Err refusal) IoError → Rose old.faults new.faults
+flush_fails error refusal old mid new recovery h is =
+    rose_before old.faults mid.faults new.faults (flush_cause error old mid h (recovery.io_error (err_same refusal IoError is))) (later_on error refusal mid new recovery)
 
 -- the checks' answer
 not_io_error : (refusal : Refusal) → is_failure refusal ≡ false → refusal ≡ IoError → ⊥

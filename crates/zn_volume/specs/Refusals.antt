@@ -11,6 +11,7 @@ use Rattle.zn_model.specs.Volume.{Mounted, Live, live_at, is_queued_through}
 use Rattle.zn_model.specs.CallAnswers.{busy_refusal}
 use Rattle.zn_model.specs.OpenClose.{opening_refusal}
 use Rattle.zn_model.specs.Reading.{reading_refusal}
+use Rattle.zn_model.specs.Truncating.{truncate_at_once, syncing_refusal}
 use Rattle.zn_model.specs.Writing.{write_at_once}
 
 -- a refusal that tells what a device's command answered
@@ -76,6 +77,14 @@ read_refusal m h offset = power_first m (live_first (live_at m.volume.handles h)
 abbrev pub write_refusal : Mounted → Handle → ℕ → ℕ → Option Refusal
 write_refusal m h offset len = power_first m (live_first (live_at m.volume.handles h) (λ live. refusal_in (write_at_once m.volume live offset len)))
 
+-- of a truncation to so many bytes
+abbrev pub truncate_refusal : Mounted → Handle → ℕ → Option Refusal
+truncate_refusal m h size = power_first m (live_first (live_at m.volume.handles h) (λ live. refusal_in (truncate_at_once m.volume live size)))
+
+-- of a sync
+abbrev pub sync_refusal : Mounted → Handle → Option Refusal
+sync_refusal m h = power_first m (live_first (live_at m.volume.handles h) (λ live. syncing_refusal m.volume live))
+
 -- a path must be that of a directory or a file
 abbrev pub named_first : Option (List (List ℕ)) → Option ℕ → Option Refusal
 named_first (Some names) file = None
@@ -89,3 +98,7 @@ stat_refusal m path = power_first m (named_first (listing_of m.volume.inodes.lay
 -- of a count of entries
 abbrev pub entries_refusal : Mounted → List ℕ → Option Refusal
 entries_refusal m path = power_first m (named_first (listing_of m.volume.inodes.layout path) None)
+
+-- of a look at the attributes
+abbrev pub attr_refusal : Mounted → Option Refusal
+attr_refusal m = power_first m None

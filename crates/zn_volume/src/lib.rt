@@ -10,6 +10,7 @@ mod prepared;
 mod reading;
 #[cfg(test)]
 mod tests;
+mod truncating;
 mod unmounting;
 mod volume;
 mod writing;

@@ -2,9 +2,10 @@
 ghost use Rattle.std.specs.Prelude.{◌≡◌, ◌<◌, ◌≤◌, length, false, option_map, All, AllPairs};
 ghost use Rattle.zn_model.specs.declared.limits.TheConstants.{MAX_HANDLES};
 ghost use Rattle.zn_model.specs.ZoneFiles.{files_of, listing_of};
-ghost use Rattle.zn_model.specs.Looks.{stat_call, entries_call, file_stat, directory_stat, mode_of as shown_mode, change_refusal};
+ghost use Rattle.zn_model.specs.Looks.{stat_call, entries_call, attr_call, is_shown_active as is_counted_active, shown_active as count_of_active, file_stat, directory_stat, mode_of as shown_mode, change_refusal};
 ghost use Rattle.zn_model.specs.Access.{unwritable as without_write};
-ghost use Rattle.zn_volume.specs.Refusals.{IsRefusedBy, stat_refusal, entries_refusal};
+ghost use Rattle.zn_model.specs.Volume.{file_at, shown_at};
+ghost use Rattle.zn_volume.specs.Refusals.{IsRefusedBy, stat_refusal, entries_refusal, attr_refusal};
 ghost use Rattle.zn_volume.specs.Means.{spoils};
 ghost use Rattle.zn_volume.specs.VolumeState.{mounted_in};
 
@@ -12,7 +13,7 @@ use crate::paths::entries_of_path;
 use crate::volume::Volume;
 use zn_device::Zoned;
 use zn_inode::room;
-use zn_model::{Refusal, Shown, Stat};
+use zn_model::{Attr, Refusal, Shown, Stat};
 
 /// An octal digit without the right to write.
 fn unwritable(digit: u32) -> u32
@@ -99,6 +100,54 @@ impl<D: Zoned + Drop> Volume<D> {
             return Err(Refusal::PowerLost);
         }
         self.entries_of(path).ok_or(Refusal::NoSuchFile)
+    }
+
+    /// The device's limits on open and active zones, 0 for none, and how many sequential files are open for writing and
+    /// are shown active.
+    ///
+    /// Refused as `PowerLost` without power.
+    #[tactic(auto, unfolding(zn_model::specs::Looks::attr_call, zn_truth::specs::World::geometry_of))]
+    pub fn attr(&self) -> Result<Attr, Refusal>
+        ensures reply { result ≡ (attr_call (mounted_in self.now)).reply }
+        ensures refused { IsRefusedBy (attr_refusal (mounted_in self.now)) result }
+        ensures told { spoils result ≡ false }
+    {
+        if !self.dev.powered() {
+            return Err(Refusal::PowerLost);
+        }
+        let shape = self.dev.shape();
+        Ok(Attr {
+            max_wro: shape.max_open,
+            nr_wro: self.wro(),
+            max_active: shape.max_active,
+            nr_active: self.shown_active(),
+        })
+    }
+
+    /// Whether a file is sequential, may be written, and is held open or shown partly full.
+    fn is_shown_active(&self, f: u32) -> bool
+        requires { f < length (files_of self.now.volume.inodes.layout) }
+        ensures { let inodes = self.now.volume.inodes in
+            result ≡ is_counted_active inodes.shape (file_at inodes f) (shown_at inodes f) }
+    {
+        let shown = self.inodes.shown(f);
+        self.inodes.file(f).seq
+            && shown.may_write
+            && (shown.held_open || 0 < shown.size && shown.size < self.capacity(f))
+    }
+
+    /// How many files are so.
+    #[tactic(auto, using(crate::proofs::Counting::one_counted, crate::proofs::Counting::none_counted))]
+    fn shown_active(&self) -> u32
+        ensures { result ≡ count_of_active self.now.volume.inodes }
+    {
+        let mut active = 0;
+        for f in 0..self.inodes.files() {
+            if self.is_shown_active(f) {
+                active += 1;
+            }
+        }
+        active
     }
 
     /// How many files `cnv` has, and how many `seq`.

@@ -125,7 +125,7 @@ impl<D: Zoned + Drop> Volume<D> {
     }
 
     /// How many sequential files are open for writing.
-    fn wro(&self) -> u32
+    pub(crate) fn wro(&self) -> u32
         ensures { result ≡ wro self.now.volume }
     {
         self.handles.wro()
