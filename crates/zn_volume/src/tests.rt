@@ -12,6 +12,8 @@ use zn_model::{Mode, MountError, MountOpts, Policy, Refusal, Who, Why};
 use zn_super::{Label, Super};
 use zn_truth::{DevError, Kind, Shape, ZoneNo};
 
+mod zones;
+
 const WHO: Who = Who { uid: 0, gid: 0 };
 
 const OPTS: MountOpts = MountOpts {
