@@ -122,6 +122,40 @@ fn sequential_files_grow(rt: HostRuntime) -> Result<(), Fail> {
 }
 
 #[test]
+fn files_are_truncated(rt: HostRuntime) -> Result<(), Fail> {
+    for case in [
+        done(
+            "scratch 4 2 4",
+            "write 0 0 61*4096\ntruncate 0 8192\ntruncate 0 16384\nread 0 0 16384\ntruncate 0 0\nsize 0\nopen 1 cnv/0 rw\ntruncate 1 0\n",
+            "ok\nerror not-allowed\nok\nok 16384 61*4096+00*12288\nok\nok 0\nok\nerror not-allowed\n",
+        ),
+        done(
+            "scratch 4 2 4",
+            "sync 0\nclose 0\nsync 0\nopen 0 seq/0 r\nsync 0\ntruncate 0 0\ntruncate 1 0\n",
+            "ok\nok\nerror bad-handle\nok\nok\nerror bad-mode\nerror bad-handle\n",
+        ),
+    ] {
+        runs(rt, rt.alloc(), case)?;
+    }
+    Ok(())
+}
+
+#[test]
+fn zones_are_opened_explicitly(rt: HostRuntime) -> Result<(), Fail> {
+    for case in [
+        done(
+            "scratch 4 2 4",
+            "close 0\numount\nmount explicit-open\nattr\nopen 0 seq/0 rw\nattr\ntruncate 0 16384\nattr\ntruncate 0 0\nattr\nclose 0\nattr\n",
+            "ok\nok\nok\nok max_wro_seq_files=0 nr_wro_seq_files=0 max_active_seq_files=0 nr_active_seq_files=0\nok\nok max_wro_seq_files=0 nr_wro_seq_files=1 max_active_seq_files=0 nr_active_seq_files=1\nok\nok max_wro_seq_files=0 nr_wro_seq_files=1 max_active_seq_files=0 nr_active_seq_files=0\nok\nok max_wro_seq_files=0 nr_wro_seq_files=1 max_active_seq_files=0 nr_active_seq_files=0\nok\nok max_wro_seq_files=0 nr_wro_seq_files=0 max_active_seq_files=0 nr_active_seq_files=0\n",
+        ),
+        done("scratch 1 0 2", "attr\numount\nattr\n", "ok max_wro_seq_files=0 nr_wro_seq_files=0 max_active_seq_files=0 nr_active_seq_files=0\nok\nerror not-mounted\n"),
+    ] {
+        runs(rt, rt.alloc(), case)?;
+    }
+    Ok(())
+}
+
+#[test]
 fn handles_and_names(rt: HostRuntime) -> Result<(), Fail> {
     for case in [
         done(
