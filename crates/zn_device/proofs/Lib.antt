@@ -6,3 +6,4 @@ pub mod Places
 pub mod Power
 pub mod Quieted
 pub mod Stores
+pub mod Harms

@@ -5,3 +5,4 @@ pub mod Memory
 pub mod Quiet
 pub mod Stores
 pub mod States
+pub mod Harms

@@ -13,11 +13,14 @@ ghost use Rattle.zn_device.specs.States.{DeviceState, Commanded};
 
 mod commands;
 mod fresh;
+mod harm;
+mod harming;
 mod laws;
 mod memory;
 mod quiet;
 mod store;
 
+pub use harm::{Harm, Injects};
 pub use laws::{loss_is_told, loss_is_told_in_all, no_power_is_told, refusal_is_by_name};
 pub use memory::MemDevice;
 pub use quiet::Quiet;
