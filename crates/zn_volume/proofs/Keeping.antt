@@ -1,14 +1,18 @@
 -- The parts of a volume go on agreeing.
-use Rattle.std.proofs.Common.{◌≡◌, ℕ, ◌*◌, ◌<◌, ◌≤◌, Bool, true, false, Option, Some, None, Result, Ok, Err, length, get_or, refl, sym, ap, ◌∙◌, subst, inl, inr, arith, List}
+use Rattle.std.proofs.Common.{◌≡◌, ℕ, ◌*◌, ◌<◌, ◌≤◌, Bool, true, false, Option, Some, None, Result, Ok, Err, length, get_or, refl, sym, ap, ◌∙◌, subst, inl, inr, arith, List, [], ◌∷◌, ◌++◌}
 use Rattle.std.proofs.lemmas.Bool.{and_parts, cases_eq, cases_lt}
 use Rattle.std.proofs.lemmas.List.{get_or-set_same, get_or-set_other, set_past}
 use Rattle.zn_truth.specs.declared.Cond.{Cond}
 use Rattle.zn_truth.specs.declared.Cond.TheVariants.{Good, ReadOnly, Offline}
 use Rattle.zn_truth.specs.declared.DevError.{DevError}
+use Rattle.zn_truth.specs.declared.FaultSpec.{FaultSpec}
 use Rattle.zn_truth.specs.declared.Kind.TheVariants.{Conventional, Sequential}
 use Rattle.zn_truth.specs.declared.Shape.{Shape}
-use Rattle.zn_truth.specs.Truth.{Geometry, is_good, kind_at}
+use Rattle.zn_truth.specs.Truth.{Geometry, geometry, is_good, kind_at}
 use Rattle.zn_truth.specs.Obeying.{IsZoneToManage}
+use Rattle.zn_truth.specs.declared.InjectError.TheVariants.{BadFault, TooManyFaults}
+use Rattle.zn_truth.specs.declared.limits.TheConstants.{MAX_FAULTS}
+use Rattle.zn_truth.specs.Inject.{Injected, inject, is_bad_fault}
 use Rattle.zn_truth.specs.World.{World, geometry_of}
 use Rattle.zn_device.specs.States.{DeviceState}
 use Rattle.zn_model.specs.declared.files.FileZones.{FileZones}
@@ -18,7 +22,7 @@ use Rattle.zn_model.specs.declared.files.Policy.TheVariants.{RemountRo, ZoneRo, 
 use Rattle.zn_model.specs.declared.files.Shown.{Shown}
 use Rattle.zn_model.specs.ZoneFiles.{Layout, files_of, kind_of}
 use Rattle.zn_inode.specs.Sizes.{IsWithinRoom}
-use Rattle.std.specs.Prelude.{slice_index_or, if◌then◌else◌}
+use Rattle.std.specs.Prelude.{slice_index_or, if◌then◌else◌, nat_le}
 use Rattle.zn_model.specs.ShownStates.{policy_row, showing}
 use Rattle.zn_model.specs.Volume.{Inodes, file_at, shown_at, with_shown, no_file}
 use Rattle.zn_model.specs.Recovery.{recovered_inodes, recovered_shown, inodes_after}
@@ -42,6 +46,19 @@ agrees_on v w inodes seen infos a b same len agrees = record {
   places = agrees.places ∙ ap (λ (g : Geometry). length g.kinds) (sym same);
   blocks = subst (λ (n : ℕ). 4096 * 257 ≤ n) (sym len) agrees.blocks;
 }
+
+-- a fault that is made to wait changes nothing of what the device is
+pub injected_geometry : (w : World) (fault : FaultSpec) → geometry_of (inject w fault).world ≡ geometry_of w
+unfolding inject geometry_of
+injected_geometry w fault = by_tests (is_bad_fault w.truth fault) (nat_le MAX_FAULTS (length w.pending))
+  where
+    by_tests : (bad full : Bool) → let injected : Injected = if bad then record { reply = Err BadFault; world = w }
+        else if full then record { reply = Err TooManyFaults; world = w }
+        else record { reply = Ok tt; world = record w { pending = w.pending ++ fault ∷ [] } } in
+        geometry injected.world.truth ≡ geometry w.truth
+    by_tests true full = refl
+    by_tests false true = refl
+    by_tests false false = refl
 
 -- ---- held open
 

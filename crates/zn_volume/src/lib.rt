@@ -2,6 +2,7 @@
 #![tactic(auto)]
 
 mod commands;
+mod injecting;
 mod looking;
 mod mounting;
 mod opening;
