@@ -125,6 +125,13 @@ impl Zones {
         rest_all(&mut self.zones);
     }
 
+    /// Every machine is sound.
+    pub fn sound(&self)
+        ensures { IsSoundMachine self.now }
+    {
+        let _ = &self.zones;
+    }
+
     /// Whether blocks of a zone may be read, up to this one.
     pub fn may_read(&self, z: ZoneNo, end: u32) -> Result<(), ZoneError>
         requires { z.0 < length self.now.zones }
