@@ -1,6 +1,7 @@
 pub mod Begins
 pub mod Bytes
 pub mod Devices
+pub mod Harms
 pub mod Ordered
 pub mod Places
 pub mod Power

@@ -20,8 +20,8 @@ use Rattle.zn_truth.proofs.Issuing.{zones-in_geometry}
 use Rattle.zn_truth.proofs.Sound.{done-geometry}
 use Rattle.zn_zone.proofs.Within.{is_within}
 use Rattle.zn_zone.specs.Facts.{ZoneFacts, Facts, zone_facts, facts_of, facts_at, info_of, bare_zone, bare, refusal_by, after}
-use Rattle.zn_zone.specs.Machine.{Machine, state_at, facts}
-use Rattle.zn_zone.proofs.ByFacts.{facts_of-bare}
+use Rattle.zn_zone.specs.Machine.{Machine, state_at, facts_in, facts, geometry_in}
+use Rattle.zn_zone.proofs.ByFacts.{map-map, facts_of-bare}
 use Rattle.zn_device.specs.declared.store.Store.{Store}
 use Rattle.zn_device.specs.Stores.{zone_of, truth_of, HasBuffer, held_before, HasStores, IsSoundDevice}
 use Rattle.zn_device.proofs.Stores.{length-zones_of, facts_of-truth_of, zone_at-truth_of, facts_at-facts, zones-facts}
@@ -176,3 +176,14 @@ pub stores_kept : (f : Facts) (stores : List Store) (z : ℕ) (old new : Store) 
     → length new.buffer.items ≡ length old.buffer.items → HasStores f (set stores z new)
 stores_kept f stores z old new stored below is same =
     stores_set f f stores z new refl stored (same ∙ subst (λ s. HasBuffer f.shape (facts_at f z).kind s) (sym is) (stored.buffers z old below))
+
+-- the geometry of the machine is that of its facts
+geometry-machine : (m : Machine) → geometry_by (facts m) ≡ geometry_in m
+geometry-machine m = ap (λ kinds. let g : Geometry = record { shape = m.shape; kinds = kinds } in g) (map-map (λ (zone : ZoneFacts). zone.kind) facts_in m.zones)
+
+-- after a move of the machine, and a store that keeps the length of its buffer
+pub stores_moved : (m n : Machine) (stores : List Store) (z : ℕ) (old new : Store) → geometry_in n ≡ geometry_in m → HasStores (facts m) stores → z < length stores → old ≡ get_or stores z old
+    → length new.buffer.items ≡ length old.buffer.items → HasStores (facts n) (set stores z new)
+stores_moved m n stores z old new same stored below is kept =
+    stores_set (facts m) (facts n) stores z new (geometry-machine n ∙ same ∙ sym (geometry-machine m)) stored
+    (kept ∙ subst (λ s. HasBuffer m.shape (facts_at (facts m) z).kind s) (sym is) (stored.buffers z old below))

@@ -58,7 +58,7 @@ truth_of-put f stores z zone store keeps =
     ap (λ zones. let t : Truth = record { told = true; shape = f.shape; zones = zones } in t)
     (zones_of-set f.zones stores z (zone_facts zone) store ∙ ap (set (zones_of f.zones stores) z) keeps)
 
-facts_of-with_zone : (t : Truth) (z : ℕ) (zone : Zone) → facts_of (with_zone t z zone) ≡ with_facts (facts_of t) z (zone_facts zone)
+pub facts_of-with_zone : (t : Truth) (z : ℕ) (zone : Zone) → facts_of (with_zone t z zone) ≡ with_facts (facts_of t) z (zone_facts zone)
 facts_of-with_zone t z zone = ap (λ zones. let g : Facts = record { shape = t.shape; zones = zones } in g) (map-set zone_facts t.zones z _)
 
 -- ---- orders

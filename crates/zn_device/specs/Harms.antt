@@ -1,5 +1,5 @@
 -- What harms a device from outside, and what that leaves. (own)
-use Rattle.std.specs.Prelude.{◌≡◌, ℕ, ◌≤◌, Bool, true, false, not, Ok, Err, IsErrOf}
+use Rattle.std.specs.Prelude.{◌≡◌, ◌≤◌, Bool, true, false, not, Ok, Err, IsErrOf}
 use Rattle.zn_base.specs.Causes.{Rose}
 use Rattle.zn_truth.specs.declared.InjectError.TheVariants.{Broken, Memory}
 use Rattle.zn_truth.specs.Truth.{Truth}

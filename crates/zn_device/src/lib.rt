@@ -14,6 +14,7 @@ ghost use Rattle.zn_device.specs.States.{DeviceState, Commanded};
 mod commands;
 mod fresh;
 mod harm;
+mod harming;
 mod laws;
 mod memory;
 mod quiet;

@@ -6,12 +6,13 @@ ghost use Rattle.zn_zone.specs.Machine.{facts};
 ghost use Rattle.zn_device.specs.Fresh.{fresh};
 ghost use Rattle.zn_device.specs.Stores.{truth_of, IsSoundDevice};
 
-use crate::Zoned;
 use crate::commands::{flush_all, manage_stored, read_stored, report_from, write_stored};
 use crate::fresh::{fresh_infos, fresh_stores};
+use crate::harming::{durable_stored, settle_stored, turn_stored};
 use crate::store::Store;
+use crate::{Harm, Zoned};
 use std::alloc::{AllocError, Global};
-use zn_truth::{DevError, Kind, Shape, ZoneInfo, ZoneNo, ZoneOp};
+use zn_truth::{Cond, DevError, Kind, Shape, ZoneInfo, ZoneNo, ZoneOp};
 use zn_zone::Zones;
 
 /// A zoned device in memory, which keeps its zones' conditions itself. Only `new` takes memory.
@@ -91,6 +92,29 @@ impl Zoned for MemDevice {
 
     fn breaks(&self) -> u64 {
         0
+    }
+}
+
+#[tactic(auto, unfolding(zn_truth::specs::World::geometry_of))]
+impl Harm for MemDevice {
+    ghost use Rattle.std.proofs.Common.{refl};
+
+    ghost is_calm = { λ d. refl };
+
+    ghost is_faultless = { λ d. refl };
+
+    fn durable(&self, z: ZoneNo) -> u32 {
+        durable_stored(&self.stores, z)
+    }
+
+    fn turn(&mut self, z: ZoneNo, to: Cond) -> Result<(), DevError> {
+        turn_stored(&mut self.zones, &mut self.stores, z, to);
+        Ok(())
+    }
+
+    fn settle(&mut self, z: ZoneNo, from: u32, len: u32, fill: Option<u8>) -> Result<(), DevError> {
+        settle_stored(&mut self.zones, &mut self.stores, z, from, len, fill);
+        Ok(())
     }
 }
 

@@ -2,13 +2,15 @@
 ghost use Rattle.std.specs.Prelude.{◌≡◌, ◌+◌, ◌*◌, ◌/◌, ◌≤◌, length, take, drop, IfOk};
 ghost use Rattle.zn_truth.specs.Truth.{room};
 ghost use Rattle.zn_truth.specs.Orders.{replaced, written, managed, flushed};
+ghost use Rattle.zn_truth.specs.Loss.{turned_by};
+ghost use Rattle.zn_truth.specs.Power.{settled};
 ghost use Rattle.zn_truth.specs.Obeying.{IsWhole};
 ghost use Rattle.zn_truth.specs.declared.Kind.TheVariants.{Conventional, Sequential};
 ghost use Rattle.zn_truth.specs.Fresh.{fresh_zone};
 ghost use Rattle.zn_device.specs.Stores.{zone_of, Keeps, HasBuffer, held_before};
 
 use std::alloc::{AllocError, Global};
-use zn_truth::{BLOCK_SIZE, Kind, Shape, ZoneInfo, ZoneOp};
+use zn_truth::{BLOCK_SIZE, Cond, Kind, Shape, ZoneInfo, ZoneOp};
 
 /// What is kept of a zone beside its condition and its length.
 #[derive(Drop)]
@@ -136,5 +138,41 @@ impl Store {
     {
         self.durable = info.held;
         self.unflushed.fill(false);
+    }
+
+    /// How many blocks, from the start, are durable.
+    pub fn durable(&self) -> u32
+        ensures { result ≡ self.now.durable }
+    {
+        self.durable
+    }
+
+    /// Turns a zone to a condition: all of it is durable, or, offline, none is left.
+    pub fn turn(&mut self, info: ZoneInfo, to: Cond)
+        ensures zone { (kind : Kind) → Keeps self.new (turned_by to (zone_of kind info self.old)) }
+        ensures buffer { length self.new.buffer.items ≡ length self.old.buffer.items }
+    {
+        match to {
+            Cond::Good | Cond::ReadOnly => self.flush(info),
+            Cond::Offline => {
+                self.durable = 0;
+                self.unflushed.clear();
+            }
+        }
+    }
+
+    /// Cuts a sequential zone to so many blocks, all of them durable. Where a byte is given, it takes the place of each
+    /// byte from block `from` on.
+    pub fn settle(&mut self, from: u32, len: u32, fill: Option<u8>)
+        requires order { from ≤ len }
+        requires buffer { BLOCK_SIZE * len ≤ length self.old.buffer.items }
+        ensures zone { (info : ZoneInfo) → len ≤ info.held →
+            Keeps self.new (settled (zone_of Sequential info self.old) from len fill) }
+        ensures buffer { length self.new.buffer.items ≡ length self.old.buffer.items }
+    {
+        if let Some(byte) = fill {
+            self.buffer[BLOCK_SIZE * from as usize..BLOCK_SIZE * len as usize].fill(byte);
+        }
+        self.durable = len;
     }
 }

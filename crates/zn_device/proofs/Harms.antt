@@ -1,0 +1,153 @@
+-- What harm from outside makes of a device in memory.
+use Rattle.std.proofs.Common.{◌≡◌, ◌⊎◌, ℕ, ◌<◌, ◌≤◌, true, false, List, length, set, get_or, Option, Ok, refl, sym, ap, ◌∙◌, subst, ⊎_elim, arith}
+use Rattle.std.specs.Prelude.{IsTrue}
+use Rattle.std.proofs.lemmas.Bool.Decides.{nat_tests}
+use Rattle.zn_truth.specs.declared.Kind.{Kind}
+use Rattle.zn_truth.specs.declared.Kind.TheVariants.{Sequential}
+use Rattle.zn_truth.specs.declared.Cond.{Cond}
+use Rattle.zn_truth.specs.declared.Cond.TheVariants.{Good, ReadOnly}
+use Rattle.zn_truth.specs.declared.Shape.{Shape}
+use Rattle.zn_truth.specs.declared.ZoneInfo.{ZoneInfo}
+use Rattle.zn_truth.specs.Truth.{Zone, Truth, Geometry, zone_at, with_zone, geometry, is_sequential, IsSound}
+use Rattle.zn_truth.specs.Orders.{flushed}
+use Rattle.zn_truth.specs.Loss.{turned_by, turned}
+use Rattle.zn_truth.specs.Power.{settled}
+use Rattle.zn_truth.specs.Inject.{severity}
+use Rattle.zn_truth.specs.Limits.{IsWithinLimits}
+use Rattle.zn_truth.specs.World.{calm, geometry_of}
+use Rattle.zn_truth.specs.Obeying.{IsZoneToManage}
+use Rattle.zn_truth.proofs.Issuing.{zones-in_geometry, kind-in_geometry}
+use Rattle.zn_truth.proofs.SoundInject.{turned_sound, turned-geometry}
+use Rattle.zn_truth.proofs.SoundIssue.{settle_sound, settle-geometry}
+use Rattle.zn_zone.specs.declared.Raw.{Raw}
+use Rattle.zn_zone.specs.declared.Raw.TheVariants.{Full}
+use Rattle.zn_zone.specs.Facts.{ZoneFacts, Facts, zone_facts, facts_of, facts_at, with_facts, with_held, info_of, bare}
+use Rattle.zn_zone.specs.Machine.{Machine, state_at, facts_in, facts, fits, IsSoundMachine}
+use Rattle.zn_zone.proofs.Truths.{facts_at-zone, turned-facts}
+use Rattle.zn_device.specs.declared.store.Store.{Store}
+use Rattle.zn_device.specs.Harms.{Harmed}
+use Rattle.zn_device.specs.Memory.{calm_state}
+use Rattle.zn_device.specs.Stores.{zone_of, Keeps, truth_of, HasStores, IsSoundDevice}
+use Rattle.zn_device.proofs.Places.{zones_in}
+use Rattle.zn_device.proofs.Stores.{facts_of-truth_of, truth_of-put, facts_of-with_zone, zone_at-truth_of, facts_at-facts}
+
+-- ---- a zone, as the machine has it
+
+pub facts_told : (f : Facts) (stores : List Store) (z : ℕ) → length stores ≡ length f.zones → zone_facts (zone_at (truth_of f stores) z) ≡ facts_at f z
+facts_told f stores z count = sym (facts_at-zone (truth_of f stores) z) ∙ ap (λ (g : Facts). facts_at g z) (facts_of-truth_of f stores count)
+
+pub zone_told : (m : Machine) (stores : List Store) (z : ℕ) → length stores ≡ length (facts m).zones → zone_facts (zone_at (truth_of (facts m) stores) z) ≡ facts_in (state_at m z)
+zone_told m stores z count = facts_told (facts m) stores z count ∙ facts_at-facts m z
+
+-- a zone of the device is one of the machine
+pub zone_below : (m : Machine) (stores : List Store) (z : ℕ) → IsSoundDevice (facts m) stores → z < length (geometry (truth_of (facts m) stores)).kinds → z < length m.zones
+zone_below m stores z device below = omega (arith, zones_in m stores device)
+
+-- a full zone holds its capacity
+full_holds : (shape : Shape) (kind : Kind) (raw : Raw) (held : ℕ) → raw ≡ Full → IsTrue (fits shape kind raw held) → held ≡ shape.zone_capacity
+full_holds shape kind raw held is fit = let f : IsTrue (fits shape kind Full held) = subst (λ r. IsTrue (fits shape kind r held)) is fit in grind (arith, nat_tests)
+
+-- and is durable as a whole, so that no part of it is cut away
+pub full_stays : (m : Machine) (stores : List Store) (z from len : ℕ) → IsSoundDevice (facts m) stores → IsSoundMachine m → z < length m.zones
+    → (state_at m z).kind ≡ Sequential → (zone_at (truth_of (facts m) stores) z).durable ≤ from → from ≤ len → len ≤ (zone_at (truth_of (facts m) stores) z).held
+    → (state_at m z).raw ≡ Full → len ≡ m.shape.zone_capacity
+full_stays m stores z from len device machine below kind least order most full =
+    let zone = zone_at (truth_of (facts m) stores) z in
+    let there : z < length (truth_of (facts m) stores).zones = omega (arith, zones_in m stores device, zones-in_geometry (truth_of (facts m) stores)) in
+    let told : zone_facts zone ≡ facts_in (state_at m z) = zone_told m stores z device.stored.count in
+    let same : zone.held ≡ (state_at m z).held = ap (λ (v : ZoneFacts). v.held) told in
+    let sequential : is_sequential zone.kind ≡ true = ap (λ (v : ZoneFacts). is_sequential v.kind) told ∙ ap is_sequential kind in
+    let whole : (state_at m z).held ≡ m.shape.zone_capacity = full_holds m.shape (state_at m z).kind (state_at m z).raw (state_at m z).held full (machine.zones z below) in
+    let durable : zone.durable ≡ zone.held = (device.sound.zones z there).full sequential (same ∙ whole) in
+    omega arith
+
+-- what is made durable as a whole turned to any condition but offline
+pub turned_store : (old new : Store) (kind : Kind) (info : ZoneInfo) (to : Cond) → (to ≡ Good) ⊎ (to ≡ ReadOnly) → Keeps new (flushed (zone_of kind info old)) → Keeps new (turned_by to (zone_of kind info old))
+turned_store old new kind info to is keeps = ⊎_elim
+    (λ good. subst (λ (v : Cond). Keeps new (turned_by v (zone_of kind info old))) (sym good) (ap (λ (zone : Zone). record zone { cond = Good; explicit = false }) keeps))
+    (λ read_only. subst (λ (v : Cond). Keeps new (turned_by v (zone_of kind info old))) (sym read_only) (ap (λ (zone : Zone). record zone { cond = ReadOnly; explicit = false }) keeps))
+    is
+
+-- ---- what the device holds
+
+-- a zone that turned
+pub turn_truth : (f g : Facts) (stores : List Store) (z : ℕ) (to : Cond) (info : ZoneInfo) (store new : Store) → g ≡ facts_of (turned (bare f) z to)
+    → length stores ≡ length f.zones → z < length f.zones → store ≡ get_or stores z store → info ≡ info_of (facts_at f z)
+    → Keeps new (turned_by to (zone_of (facts_at f z).kind info store)) → truth_of g (set stores z new) ≡ turned (truth_of f stores) z to
+unfolding turned
+turn_truth f g stores z to info store new is count below there info_is keeps =
+    let t = truth_of f stores in
+    let zone = turned_by to (zone_of (facts_at f z).kind info store) in
+    let same : facts_of t ≡ f = facts_of-truth_of f stores count in
+    let by : with_zone t z (turned_by to (zone_at t z)) ≡ with_zone t z zone =
+    ap (λ (v : Zone). with_zone t z (turned_by to v)) (zone_at-truth_of f stores z store count below there ∙ ap (λ i. zone_of (facts_at f z).kind i store) (sym info_is)) in
+    ap (λ h. truth_of h (set stores z new))
+    (is ∙ ap (λ h. facts_of (turned (bare h) z to)) (sym same) ∙ sym (turned-facts t z to) ∙ ap facts_of by ∙ facts_of-with_zone t z zone ∙ ap (λ h. with_facts h z (zone_facts zone)) same)
+    ∙ truth_of-put f stores z zone new keeps ∙ sym by
+
+-- a zone that is settled
+pub settle_truth : (f g : Facts) (stores : List Store) (z from len : ℕ) (fill : Option ℕ) (store new : Store) → g ≡ with_held f z len
+    → length stores ≡ length f.zones → z < length f.zones → store ≡ get_or stores z store → (facts_at f z).kind ≡ Sequential
+    → Keeps new (settled (zone_of Sequential (info_of (facts_at f z)) store) from len fill)
+    → truth_of g (set stores z new) ≡ with_zone (truth_of f stores) z (settled (zone_at (truth_of f stores) z) from len fill)
+settle_truth f g stores z from len fill store new is count below there kind keeps =
+    let t = truth_of f stores in
+    let zone = settled (zone_of Sequential (info_of (facts_at f z)) store) from len fill in
+    let by : with_zone t z (settled (zone_at t z) from len fill) ≡ with_zone t z zone =
+    ap (λ (v : Zone). with_zone t z (settled v from len fill)) (zone_at-truth_of f stores z store count below there ∙ ap (λ k. zone_of k (info_of (facts_at f z)) store) kind) in
+    ap (λ h. truth_of h (set stores z new))
+    (is ∙ ap (λ k. let zs : ZoneFacts = record { kind = k; cond = (facts_at f z).cond; held = len; explicit = (facts_at f z).explicit } in with_facts f z zs) kind)
+    ∙ truth_of-put f stores z zone new keeps ∙ sym by
+
+-- ---- what the device owes
+
+-- a device that holds a sound truth of the same geometry
+device_with : (f g : Facts) (stores new : List Store) (u : Truth) → IsSoundDevice f stores → HasStores g new → truth_of g new ≡ u → IsSound u → geometry u ≡ geometry (truth_of f stores) → IsSoundDevice g new
+device_with f g stores new u device stored is sound same = record {
+  stored = stored;
+  sound = subst IsSound (sym is) sound;
+  within = subst (λ (h : Geometry). ∥ IsWithinLimits h ∥₁) (sym (ap geometry is ∙ same)) device.within;
+}
+
+pub device_turned : (f g : Facts) (stores new : List Store) (z : ℕ) (to : Cond) → IsSoundDevice f stores → z < length (geometry_of (calm (truth_of f stores))).kinds
+    → severity (zone_at (truth_of f stores) z).cond < severity to → HasStores g new → truth_of g new ≡ turned (truth_of f stores) z to → IsSoundDevice g new
+unfolding geometry_of
+device_turned f g stores new z to device below worse stored is =
+    let t = truth_of f stores in
+    device_with f g stores new (turned t z to) device stored is (turned_sound t z to device.sound (omega (arith, zones-in_geometry t)) worse) (turned-geometry t z to)
+
+pub device_settled : (f g : Facts) (stores new : List Store) (z from len : ℕ) (fill : Option ℕ) → IsSoundDevice f stores → IsZoneToManage (geometry_of (calm (truth_of f stores))) z
+    → (zone_at (truth_of f stores) z).durable ≤ len → len ≤ (zone_at (truth_of f stores) z).held → HasStores g new
+    → truth_of g new ≡ with_zone (truth_of f stores) z (settled (zone_at (truth_of f stores) z) from len fill) → IsSoundDevice g new
+unfolding geometry_of
+device_settled f g stores new z from len fill device fits least most stored is =
+    let t = truth_of f stores in
+    device_with f g stores new (with_zone t z (settled (zone_at t z) from len fill)) device stored is
+    (settle_sound t z from len fill device.sound (omega (arith, fits.zone, zones-in_geometry t)) (sym (kind-in_geometry t z) ∙ fits.kind) least most)
+    (settle-geometry t z from len fill)
+
+-- a device that has power and never fails is harmed as is meant
+pub calm_harmed : (t u v : Truth) → v ≡ u → geometry u ≡ geometry t → Harmed u (Ok tt) (calm_state t) (calm_state v)
+unfolding geometry_of
+calm_harmed t u v is same = record {
+  done = λ answered. refl;
+  world = λ answered. ap calm is;
+  geometry = ap geometry is ∙ same;
+  caused = record {
+    spoilt = refl;
+    cause = record {
+      later = omega arith;
+      fault = λ none. absurd (cc);
+      kept = λ ok. refl;
+      no_fewer = omega arith;
+      broken = λ none. absurd (cc);
+      whole = λ answered. refl;
+    };
+    memory = λ free none. absurd (cc);
+    same = refl;
+    keeps = refl;
+    powered = λ none. refl;
+    still_powered = λ none. refl;
+    no_fault = λ answered pending. refl;
+  };
+}
