@@ -81,7 +81,7 @@ pub flush_reply : (f : Facts) (stores : List Store) → Ok tt ≡ (done (truth_o
 unfolding done
 flush_reply f stores = refl
 
-info-truth_of : (f : Facts) (stores : List Store) (z : ℕ) → length stores ≡ length f.zones → info_of (facts_at f z) ≡ info_at (truth_of f stores) z
+pub info-truth_of : (f : Facts) (stores : List Store) (z : ℕ) → length stores ≡ length f.zones → info_of (facts_at f z) ≡ info_at (truth_of f stores) z
 info-truth_of f stores z count =
     ap (λ g. info_of (facts_at g z)) (sym (facts_of-truth_of f stores count)) ∙ ap info_of (get_or-map zone_facts (truth_of f stores).zones z no_zone)
 

@@ -1,9 +1,9 @@
 pub mod Begins
 pub mod Bytes
 pub mod Devices
+pub mod Harms
 pub mod Ordered
 pub mod Places
 pub mod Power
 pub mod Quieted
 pub mod Stores
-pub mod Harms

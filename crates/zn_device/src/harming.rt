@@ -55,6 +55,7 @@ pub fn settle_stored(
         ≡ with_zone t z.0 (settled (zone_at t z.0) from len fill) }
     ensures stored { HasStores (facts zones.new) stores.new.items }
 {
+    // A full zone is durable as a whole, so nothing of it is cut away.
     zones.sound();
     zones.cut(z, len);
     stores[z.0 as usize].settle(from, len, fill);

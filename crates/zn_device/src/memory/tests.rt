@@ -1,9 +1,11 @@
-ghost use Rattle.std.specs.Prelude.{◌≡◌, ◌<◌, false, not, length};
-ghost use Rattle.zn_truth.specs.Truth.{room, kind_at};
+ghost use Rattle.std.specs.Prelude.{◌≡◌, ◌<◌, ◌↔◌, IsTrue, false, not, length};
+ghost use Rattle.zn_truth.specs.Truth.{room, kind_at, info_at};
 ghost use Rattle.zn_truth.specs.World.{geometry_of};
+ghost use Rattle.zn_truth.specs.Inject.{severity};
 ghost use Rattle.zn_truth.specs.Obeying.{is_answered};
+ghost use Rattle.zn_device.specs.Memory.{state_of};
 
-use crate::{MemDevice, Zoned};
+use crate::{Harm, MemDevice, Zoned};
 use std::process::Abort;
 use std::test::Fail;
 use zn_truth::{Cond, DevError, Kind, Shape, ZoneInfo, ZoneNo, ZoneOp};
@@ -28,6 +30,22 @@ fn told(held: u32, explicit: bool) -> ZoneInfo {
         explicit,
     }
 }
+
+/// What a report tells of a read-only zone.
+fn read_only(held: u32) -> ZoneInfo {
+    ZoneInfo {
+        cond: Cond::ReadOnly,
+        held,
+        explicit: false,
+    }
+}
+
+/// What a report tells of an offline zone.
+const OFFLINE: ZoneInfo = ZoneInfo {
+    cond: Cond::Offline,
+    held: 0,
+    explicit: false,
+};
 
 /// Whether more commands may follow this reply.
 fn is_answered(reply: Result<(), DevError>) -> bool
@@ -98,6 +116,55 @@ fn drive<D: Zoned>(rt: &impl Abort, device: &mut D, calls: &[(Call, Result<(), D
     }
 }
 
+/// What a report tells of a zone.
+fn info(device: &MemDevice, z: ZoneNo) -> ZoneInfo
+    requires { z.0 < length (geometry_of (state_of device.now).world).kinds }
+    ensures { result ≡ info_at (state_of device.now).world.truth z.0 }
+{
+    device.zones.info(z)
+}
+
+/// Whether the second condition is worse.
+fn is_worse(before: Cond, after: Cond) -> bool
+    ensures { IsTrue result ↔ severity before < severity after }
+{
+    match before {
+        Cond::Good => after != Cond::Good,
+        Cond::ReadOnly => after == Cond::Offline,
+        Cond::Offline => false,
+    }
+}
+
+/// Turns a zone that has so many durable blocks then.
+fn turn(rt: &impl Abort, device: &mut MemDevice, z: u32, to: Cond, durable: u32) {
+    let z = ZoneNo(z);
+    assert!(rt; z.0 < device.zones());
+    assert!(rt; is_worse(info(device, z).cond, to));
+    assert_eq!(rt; device.turn(z, to), Ok(()));
+    assert!(rt; z.0 < device.zones());
+    assert_eq!(rt; device.durable(z), durable);
+}
+
+/// Settles a zone that has so many durable blocks before.
+fn settle(
+    rt: &impl Abort,
+    device: &mut MemDevice,
+    z: u32,
+    durable: u32,
+    from: u32,
+    len: u32,
+    fill: Option<u8>,
+) {
+    let z = ZoneNo(z);
+    assert!(rt; z.0 < device.zones());
+    assert!(rt; device.kind(z) == Kind::Sequential);
+    assert_eq!(rt; device.durable(z), durable);
+    assert!(rt; durable <= from && from <= len && len <= info(device, z).held);
+    assert_eq!(rt; device.settle(z, from, len, fill), Ok(()));
+    assert!(rt; z.0 < device.zones());
+    assert_eq!(rt; device.durable(z), len);
+}
+
 #[test]
 fn limits(rt: HostRuntime) -> Result<(), Fail> {
     let shape = Shape {
@@ -165,6 +232,138 @@ fn in_place(rt: HostRuntime) -> Result<(), Fail> {
             (Call::Read(1, 1, 0), Ok(())),
             (Call::Manage(1, ZoneOp::Reset), Ok(())),
             (Call::Read(1, 0, 7), Err(DevError::BeyondWp)),
+        ],
+    );
+    Ok(())
+}
+
+#[test]
+fn turns(rt: HostRuntime) -> Result<(), Fail> {
+    let shape = Shape {
+        zone_blocks: 3,
+        zone_capacity: 2,
+        max_open: 1,
+        max_active: 1,
+    };
+    let kinds = [Kind::Conventional, Kind::Sequential, Kind::Sequential];
+    let mut device = MemDevice::new(rt.alloc(), &kinds, shape)?;
+    drive(
+        &rt,
+        &mut device,
+        &[
+            (Call::Write(0, 1, 7), Ok(())),
+            (Call::Write(1, 0, 5), Ok(())),
+            (Call::Manage(1, ZoneOp::Open), Ok(())),
+            (Call::Write(2, 0, 6), Err(DevError::TooManyActive)),
+        ],
+    );
+    turn(&rt, &mut device, 0, Cond::ReadOnly, 3);
+    turn(&rt, &mut device, 1, Cond::ReadOnly, 1);
+    drive(
+        &rt,
+        &mut device,
+        &[
+            (Call::Report(0, read_only(3)), Ok(())),
+            (Call::Read(0, 1, 7), Ok(())),
+            (Call::Write(0, 1, 8), Err(DevError::ReadOnly)),
+            (Call::Report(1, read_only(1)), Ok(())),
+            (Call::Read(1, 0, 5), Ok(())),
+            (Call::Read(1, 1, 0), Err(DevError::BeyondWp)),
+            (Call::Write(1, 1, 8), Err(DevError::ReadOnly)),
+            (Call::Manage(1, ZoneOp::Reset), Err(DevError::ReadOnly)),
+            (Call::Write(2, 0, 6), Ok(())),
+        ],
+    );
+    turn(&rt, &mut device, 0, Cond::Offline, 0);
+    turn(&rt, &mut device, 1, Cond::Offline, 0);
+    turn(&rt, &mut device, 2, Cond::Offline, 0);
+    drive(
+        &rt,
+        &mut device,
+        &[
+            (Call::Report(0, OFFLINE), Ok(())),
+            (Call::Read(0, 1, 7), Err(DevError::Offline)),
+            (Call::Write(0, 1, 8), Err(DevError::Offline)),
+            (Call::Report(1, OFFLINE), Ok(())),
+            (Call::Manage(1, ZoneOp::Finish), Err(DevError::Offline)),
+            (Call::Report(2, OFFLINE), Ok(())),
+            (Call::Read(2, 0, 6), Err(DevError::Offline)),
+            (Call::Flush, Ok(())),
+        ],
+    );
+    Ok(())
+}
+
+#[test]
+fn settles(rt: HostRuntime) -> Result<(), Fail> {
+    let shape = Shape {
+        zone_blocks: 4,
+        zone_capacity: 4,
+        max_open: 1,
+        max_active: 1,
+    };
+    let kinds = [Kind::Sequential; 3];
+    let mut device = MemDevice::new(rt.alloc(), &kinds, shape)?;
+    drive(
+        &rt,
+        &mut device,
+        &[
+            (Call::Write(0, 0, 1), Ok(())),
+            (Call::Flush, Ok(())),
+            (Call::Write(0, 1, 2), Ok(())),
+            (Call::Write(0, 2, 3), Ok(())),
+        ],
+    );
+    settle(&rt, &mut device, 0, 1, 2, 3, Some(9));
+    drive(
+        &rt,
+        &mut device,
+        &[
+            (Call::Report(0, told(3, false)), Ok(())),
+            (Call::Read(0, 0, 1), Ok(())),
+            (Call::Read(0, 1, 2), Ok(())),
+            (Call::Read(0, 2, 9), Ok(())),
+            (Call::Write(0, 3, 4), Ok(())),
+        ],
+    );
+    settle(&rt, &mut device, 0, 4, 4, 4, Some(8));
+    drive(
+        &rt,
+        &mut device,
+        &[
+            (Call::Report(0, told(4, false)), Ok(())),
+            (Call::Read(0, 3, 4), Ok(())),
+            (Call::Write(1, 0, 5), Ok(())),
+            (Call::Write(1, 1, 6), Ok(())),
+            (Call::Manage(1, ZoneOp::Open), Ok(())),
+        ],
+    );
+    settle(&rt, &mut device, 1, 0, 0, 1, None);
+    drive(
+        &rt,
+        &mut device,
+        &[
+            (Call::Report(1, told(1, true)), Ok(())),
+            (Call::Read(1, 0, 5), Ok(())),
+            (Call::Read(1, 1, 6), Err(DevError::BeyondWp)),
+            (Call::Write(1, 2, 7), Err(DevError::Unaligned)),
+            (Call::Write(1, 1, 7), Ok(())),
+            (Call::Read(1, 1, 7), Ok(())),
+            (Call::Manage(1, ZoneOp::Reset), Ok(())),
+            (Call::Write(1, 0, 8), Ok(())),
+            (Call::Manage(1, ZoneOp::Open), Ok(())),
+        ],
+    );
+    settle(&rt, &mut device, 1, 0, 0, 0, Some(9));
+    drive(
+        &rt,
+        &mut device,
+        &[
+            (Call::Report(1, told(0, true)), Ok(())),
+            (Call::Read(1, 0, 9), Err(DevError::BeyondWp)),
+            (Call::Write(2, 0, 1), Err(DevError::TooManyActive)),
+            (Call::Manage(1, ZoneOp::Close), Ok(())),
+            (Call::Write(2, 0, 1), Ok(())),
         ],
     );
     Ok(())

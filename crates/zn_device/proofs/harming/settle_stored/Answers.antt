@@ -7,20 +7,16 @@ use Rattle.zn_device.proofs.Stores.{zones-facts}
 use Rattle.zn_device.proofs.Harms.{facts_told, zone_told, full_stays, settle_truth}
 use Rattle.zn_device.proofs.harming.settle_stored.Goals as goal
 
-pub cut-requires-clause-zone : goal.cut-requires-clause-zone
-cut-requires-clause-zone c = (managed_place c.args.zones.now c.args.stores.now.items _ c.requires.device c.requires.zone).zone
-
-pub cut-requires-clause-kind : goal.cut-requires-clause-kind
-cut-requires-clause-kind c = (managed_place c.args.zones.now c.args.stores.now.items _ c.requires.device c.requires.zone).kind
-
-pub cut-requires-clause-held : goal.cut-requires-clause-held
-cut-requires-clause-held c =
-    subst (λ (zone : ZoneFacts). c.args.len ≤ zone.held) (zone_told c.args.zones.now c.args.stores.now.items c.args.z.0 c.requires.device.stored.count) c.requires.len
-
-pub cut-requires-clause-place : goal.cut-requires-clause-place
-cut-requires-clause-place c = λ full some part.
+pub cut-requires : goal.cut-requires
+cut-requires c =
     let p = managed_place c.args.zones.now c.args.stores.now.items _ c.requires.device c.requires.zone in
-    absurd (part (full_stays c.args.zones.now c.args.stores.now.items c.args.z.0 c.args.from c.args.len c.requires.device c.sound.ensures p.zone p.kind c.requires.from c.requires.order c.requires.len full))
+    record {
+      zone = p.zone;
+      kind = p.kind;
+      held = subst (λ (zone : ZoneFacts). c.args.len ≤ zone.held) (zone_told c.args.zones.now c.args.stores.now.items c.args.z.0 c.requires.device.stored.count) c.requires.len;
+      place = λ full some part.
+          absurd (part (full_stays c.args.zones.now c.args.stores.now.items c.args.z.0 c.args.from c.args.len c.requires.device c.sound.ensures p.zone p.kind c.requires.from c.requires.order c.requires.len full));
+    }
 
 pub index_mut-requires : goal.index_mut-requires
 index_mut-requires c = let p = managed_place c.args.zones.now c.args.stores.now.items _ c.requires.device c.requires.zone in omega (arith, p.store, c.args.stores.now.ok.0)

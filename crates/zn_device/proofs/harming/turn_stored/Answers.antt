@@ -10,12 +10,11 @@ use Rattle.zn_device.proofs.harming.turn_stored.Goals as goal
 pub info-info-requires : goal.info-info-requires
 info-info-requires c = zone_below c.args.zones.now c.args.stores.now.items c.args.z.0 c.requires.device c.requires.zone
 
-pub turn-requires-clause-zone : goal.turn-requires-clause-zone
-turn-requires-clause-zone c = zone_below c.args.zones.now c.args.stores.now.items c.args.z.0 c.requires.device c.requires.zone
-
-pub turn-requires-clause-worse : goal.turn-requires-clause-worse
-turn-requires-clause-worse c =
-    subst (λ (zone : ZoneFacts). severity zone.cond < severity c.args.to) (zone_told c.args.zones.now c.args.stores.now.items c.args.z.0 c.requires.device.stored.count) c.requires.worse
+pub turn-requires : goal.turn-requires
+turn-requires c = record {
+  zone = zone_below c.args.zones.now c.args.stores.now.items c.args.z.0 c.requires.device c.requires.zone;
+  worse = subst (λ (zone : ZoneFacts). severity zone.cond < severity c.args.to) (zone_told c.args.zones.now c.args.stores.now.items c.args.z.0 c.requires.device.stored.count) c.requires.worse;
+}
 
 pub index_mut-requires : goal.index_mut-requires
 index_mut-requires c =
