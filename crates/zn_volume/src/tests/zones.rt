@@ -126,6 +126,7 @@ fn is_explicit(rt: &impl Abort, volume: Volume<MemDevice>) -> bool
         explicit: false,
     }];
     let mut dev = volume.into_device();
+    assert!(rt; dev.zones() == 6);
     assert_eq!(rt; dev.report(ZoneNo(1), &mut infos), Ok(()));
     assert_eq!(rt; (infos[0].cond, infos[0].held), (Cond::Good, 0));
     infos[0].explicit
