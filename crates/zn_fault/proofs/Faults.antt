@@ -1,0 +1,174 @@
+-- A device with faults that wait, over one that has none.
+use Rattle.std.proofs.Common.{◌≡◌, ℕ, ◌+◌, ◌<◌, ◌≤◌, ◌^◌, Bool, true, false, List, length, Option, Some, None, Ok, Err, refl, sym, ap, ◌∙◌, subst, arith}
+use Rattle.std.specs.Prelude.{not, IsOk, IsErr, IsErrOf}
+use Rattle.std.proofs.lemmas.Bool.{false≢true}
+use Rattle.zn_base.specs.Causes.{one_more, Rose}
+use Rattle.zn_truth.specs.declared.DevError.{DevError}
+use Rattle.zn_truth.specs.declared.DevError.TheVariants.{Fault, PowerLost, Broken, Memory}
+use Rattle.zn_truth.specs.declared.FaultSpec.{FaultSpec}
+use Rattle.zn_truth.specs.Truth.{Geometry, Truth, geometry}
+use Rattle.zn_truth.specs.Limits.{IsWithinLimits}
+use Rattle.zn_truth.specs.Orders.{Order, Reply, Done}
+use Rattle.zn_truth.specs.World.{World, Outcome, geometry_of, issue, calm, met, unmet, command_of, zones_of, faulted}
+use Rattle.zn_truth.specs.Obeying.{Obeys, IsAnswered, is_answered}
+use Rattle.zn_truth.proofs.Issuing.{through, fails}
+use Rattle.zn_device.specs.Causes.{is_refused}
+use Rattle.zn_device.specs.States.{DeviceState, Caused, Commanded}
+use Rattle.zn_fault.specs.FaultState.{faulty_state}
+use Rattle.zn_fault.specs.Strikes.{Struck}
+
+-- ---- what the device tells
+
+-- the power and what waits are no matter of geometry
+pub faulty-geometry : (inner : DeviceState) (powered : Bool) (pending : List FaultSpec) (faults : ℕ) → geometry_of (faulty_state inner powered pending faults).world ≡ geometry_of inner.world
+unfolding geometry_of
+faulty-geometry inner powered pending faults = refl
+
+pub faulty_within : (inner : DeviceState) (powered : Bool) (pending : List FaultSpec) (faults : ℕ) → IsWithinLimits (geometry_of inner.world) → IsWithinLimits (geometry_of (faulty_state inner powered pending faults).world)
+unfolding geometry_of
+faulty_within inner powered pending faults h = h
+
+-- ---- a command that meets no fault
+
+-- without power a command answers so, and changes nothing
+off_issued : (t : Truth) (pending : List FaultSpec) (order : Order) (powered : Bool) → powered ≡ false → let w : World = record { truth = t; powered = powered; pending = pending; armed = None } in issue w order ≡ record { reply = Err PowerLost; world = w }
+unfolding issue
+off_issued t pending order true off = absurd (false≢true (sym off))
+off_issued t pending order false off = refl
+
+pub off_commanded : (order : Order) (s : DeviceState) (powered : Bool) (pending : List FaultSpec) (faults : ℕ) → powered ≡ false → s.spoilt ≡ false
+    → Commanded order (Err PowerLost) (faulty_state s powered pending faults) (faulty_state s powered pending faults)
+off_commanded order s powered pending faults off unspoilt =
+    let same : _ = off_issued s.world.truth pending order powered off in
+    record {
+      obeys = record {
+        reply = λ answered. sym (ap (λ (o : Outcome). o.reply) same);
+        world = λ answered. sym (ap (λ (o : Outcome). o.world) same);
+        geometry = refl;
+      };
+      caused = record {
+        spoilt = unspoilt;
+        cause = record {
+          later = omega arith;
+          fault = λ is. absurd (cc);
+          kept = λ ok. absurd (false≢true ok);
+          no_fewer = omega arith;
+          broken = λ is. absurd (cc);
+          whole = λ answered. refl;
+        };
+        memory = λ none is. cc;
+        same = refl;
+        keeps = refl;
+        powered = λ is. absurd (cc);
+        still_powered = λ is. absurd (cc);
+        no_fault = λ answered pending. refl;
+      };
+      named = λ keeps refused is. cc;
+    }
+
+-- the device within has no faults, so it doesn't answer one
+no_own_fault : (before now : ℕ) → before ≡ 0 → now ≡ 0 → Rose before now → ⊥
+no_own_fault before now none none_now rose = omega arith
+
+-- a command that meets no fault is done by the device within
+pub passed_commanded : (order : Order) (result : Reply) (old new : DeviceState) (powered : Bool) (pending : List FaultSpec) (faults : ℕ)
+    → Commanded order result old new → old.world ≡ calm old.world.truth → old.faults ≡ 0 → new.faults ≡ 0 → powered ≡ true → None ≡ met (command_of order) (zones_of order) pending
+    → Commanded order result (faulty_state old powered pending faults) (faulty_state new powered pending faults)
+unfolding geometry_of
+passed_commanded order result old new powered pending faults h is_calm faultless still on none =
+    let same : _ = through old.world order powered pending is_calm on none in
+    record {
+      obeys = record {
+        reply = λ answered. h.obeys.reply answered ∙ sym (ap (λ (o : Outcome). o.reply) same);
+        world = λ answered.
+            ap (λ (b : Bool). let w : World = record { truth = new.world.truth; powered = b; pending = pending; armed = None } in w) on
+            ∙ ap (λ (v : World). let w : World = record { truth = v.truth; powered = true; pending = pending; armed = None } in w) (h.obeys.world answered)
+            ∙ sym (ap (λ (o : Outcome). o.world) same);
+        geometry = h.obeys.geometry;
+      };
+      caused = record {
+        spoilt = h.caused.spoilt;
+        cause = record {
+          later = omega arith;
+          fault = λ is. absurd (no_own_fault old.faults new.faults faultless still (h.caused.cause.fault is));
+          kept = λ ok. refl;
+          no_fewer = h.caused.cause.no_fewer;
+          broken = h.caused.cause.broken;
+          whole = h.caused.cause.whole;
+        };
+        memory = h.caused.memory;
+        same = h.caused.same;
+        keeps = h.caused.keeps;
+        powered = λ is. on;
+        still_powered = λ is. on;
+        no_fault = λ answered pending. refl;
+      };
+      named = λ keeps refused. h.named keeps (sym (ap (λ (o : Outcome). is_refused o.reply) same) ∙ refused);
+    }
+
+-- ---- a command that a fault meets
+
+not_both : (r : Reply) → IsErr r → IsOk r → ⊥
+not_both (Ok unit) failed ok = false≢true failed
+not_both (Err error) failed ok = false≢true ok
+
+fewer_differ : (new old : List FaultSpec) → length new + 1 ≡ length old → new ≡ old → ⊥
+fewer_differ new old fewer same = omega (arith, ap length same)
+
+-- the fault is used up and counted, and the device within does what the fault lets it
+pub struck_commanded : (order : Order) (fault : FaultSpec) (result : Reply) (old new : DeviceState) (powered : Bool) (pending rest : List FaultSpec) (faults : ℕ)
+    → Struck order fault result old new → powered ≡ true → Some fault ≡ met (command_of order) (zones_of order) pending → rest ≡ unmet (command_of order) (zones_of order) pending
+    → length rest + 1 ≡ length pending → faults < 2 ^ 64
+    → Commanded order result (faulty_state old powered pending faults) (faulty_state new powered rest (one_more faults))
+unfolding geometry_of
+struck_commanded order fault result old new powered pending rest faults h on is_met is_rest fewer small =
+    let same : _ = fails old.world order powered pending fault on is_met in
+    record {
+      obeys = record {
+        reply = λ answered. h.reply answered ∙ sym (ap (λ (o : Outcome). o.reply) same);
+        world = λ answered.
+            ap (λ (b : Bool). let w : World = record { truth = new.world.truth; powered = b; pending = rest; armed = None } in w) on
+            ∙ ap (λ (t : Truth). let w : World = record { truth = t; powered = true; pending = rest; armed = None } in w) (h.truth answered)
+            ∙ ap (λ (l : List FaultSpec). let w : World = record { truth = (faulted old.world.truth order fault).truth; powered = true; pending = l; armed = None } in w) is_rest
+            ∙ sym (ap (λ (o : Outcome). o.world) same);
+        geometry = h.geometry;
+      };
+      caused = record {
+        spoilt = h.spoilt;
+        cause = record {
+          later = omega arith;
+          fault = λ is. omega arith;
+          kept = λ ok. absurd (not_both result h.failed ok);
+          no_fewer = h.no_fewer;
+          broken = h.broken;
+          whole = h.whole;
+        };
+        memory = h.memory;
+        same = h.same;
+        keeps = h.keeps;
+        powered = λ is. on;
+        still_powered = λ is. on;
+        no_fault = λ answered unchanged. absurd (fewer_differ rest pending fewer unchanged);
+      };
+      named = λ keeps refused. h.named keeps (sym (ap (λ (o : Outcome). is_refused o.reply) same) ∙ refused);
+    }
+
+-- ---- what the device within does where a fault meets the command
+
+-- a command other than a write or a flush does nothing
+pub nothing_struck : (order : Order) (fault : FaultSpec) (s : DeviceState) → faulted s.world.truth order fault ≡ record { reply = Err Fault; truth = s.world.truth } → s.spoilt ≡ false
+    → Struck order fault (Err Fault) s s
+nothing_struck order fault s is unspoilt = record {
+  reply = λ answered. sym (ap (λ (d : Done). d.reply) is);
+  truth = λ answered. sym (ap (λ (d : Done). d.truth) is);
+  failed = refl;
+  spoilt = unspoilt;
+  no_fewer = omega arith;
+  broken = λ broken. absurd (cc);
+  whole = λ answered. refl;
+  memory = λ none wanting. cc;
+  same = refl;
+  keeps = refl;
+  geometry = refl;
+  named = λ keeps refused broken. cc;
+}

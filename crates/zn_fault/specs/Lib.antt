@@ -1,0 +1,2 @@
+pub mod FaultState
+pub mod Strikes
