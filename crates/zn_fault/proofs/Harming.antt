@@ -133,10 +133,10 @@ pub settle_harmed : (old middle new : DeviceState) (z keep len : ℕ) (result : 
     → Harmed (settled_by_flush old.world.truth z keep) result old new
 settle_harmed old middle new z keep len result sequential good is_len asked h =
     let both : (is_sequential (zone_at old.world.truth z).kind && is_good (zone_at old.world.truth z).cond) ≡ true =
-        ap (λ (k : Kind). is_sequential k && is_good (zone_at old.world.truth z).cond) (sym (kind_is old.world z) ∙ sequential) ∙ good in
+    ap (λ (k : Kind). is_sequential k && is_good (zone_at old.world.truth z).cond) (sym (kind_is old.world z) ∙ sequential) ∙ good in
     let truth : middle.world.truth ≡ old.world.truth = ap (λ (w : World). w.truth) (asked.world refl) in
     let same : with_zone middle.world.truth z (settled (zone_at middle.world.truth z) len len None) ≡ settled_by_flush old.world.truth z keep =
-        ap (λ n. with_zone middle.world.truth z (settled (zone_at middle.world.truth z) n n None)) is_len
-        ∙ ap (λ (t : Truth). with_zone t z (settled (zone_at t z) (clamped (zone_at t z) keep) (clamped (zone_at t z) keep) None)) truth
-        ∙ sym (is_settled old.world.truth z keep both) in
+    ap (λ n. with_zone middle.world.truth z (settled (zone_at middle.world.truth z) n n None)) is_len
+    ∙ ap (λ (t : Truth). with_zone t z (settled (zone_at t z) (clamped (zone_at t z) keep) (clamped (zone_at t z) keep) None)) truth
+    ∙ sym (is_settled old.world.truth z keep both) in
     then_harmed (settled_by_flush old.world.truth z keep) result old middle new asked (subst (λ (t : Truth). Harmed t result middle new) same h)

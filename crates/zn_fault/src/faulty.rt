@@ -1,2 +1,3 @@
 pub struct Faulty;
+
 pub struct FaultyFail;
