@@ -6,27 +6,17 @@ use Rattle.zn_base.specs.Causes.{one_more, Rose}
 use Rattle.zn_truth.specs.declared.DevError.{DevError}
 use Rattle.zn_truth.specs.declared.DevError.TheVariants.{Fault, PowerLost, Broken, Memory}
 use Rattle.zn_truth.specs.declared.FaultSpec.{FaultSpec}
+use Rattle.zn_truth.specs.declared.ZoneOp.{ZoneOp}
 use Rattle.zn_truth.specs.Truth.{Geometry, Truth, geometry}
 use Rattle.zn_truth.specs.Limits.{IsWithinLimits}
-use Rattle.zn_truth.specs.Orders.{Order, Reply, Done}
+use Rattle.zn_truth.specs.Orders.{Order, ReadAt, Manage, ReportFrom, Reply, Done}
 use Rattle.zn_truth.specs.World.{World, Outcome, geometry_of, issue, calm, met, unmet, command_of, zones_of, faulted}
 use Rattle.zn_truth.specs.Obeying.{Obeys, IsAnswered, is_answered}
 use Rattle.zn_truth.proofs.Issuing.{through, fails}
 use Rattle.zn_device.specs.Causes.{is_refused}
 use Rattle.zn_device.specs.States.{DeviceState, Caused, Commanded}
 use Rattle.zn_fault.specs.FaultState.{faulty_state}
-use Rattle.zn_fault.specs.Strikes.{Struck}
-
--- ---- what the device tells
-
--- the power and what waits are no matter of geometry
-pub faulty-geometry : (inner : DeviceState) (powered : Bool) (pending : List FaultSpec) (faults : ℕ) → geometry_of (faulty_state inner powered pending faults).world ≡ geometry_of inner.world
-unfolding geometry_of
-faulty-geometry inner powered pending faults = refl
-
-pub faulty_within : (inner : DeviceState) (powered : Bool) (pending : List FaultSpec) (faults : ℕ) → IsWithinLimits (geometry_of inner.world) → IsWithinLimits (geometry_of (faulty_state inner powered pending faults).world)
-unfolding geometry_of
-faulty_within inner powered pending faults h = h
+use Rattle.zn_fault.specs.Strikes.{Spares, Strikes, Struck}
 
 -- ---- a command that meets no fault
 
@@ -71,17 +61,18 @@ no_own_fault : (before now : ℕ) → before ≡ 0 → now ≡ 0 → Rose before
 no_own_fault before now none none_now rose = omega arith
 
 -- a command that meets no fault is done by the device within
-pub passed_commanded : (order : Order) (result : Reply) (old new : DeviceState) (powered : Bool) (pending : List FaultSpec) (faults : ℕ)
-    → Commanded order result old new → old.world ≡ calm old.world.truth → old.faults ≡ 0 → new.faults ≡ 0 → powered ≡ true → None ≡ met (command_of order) (zones_of order) pending
-    → Commanded order result (faulty_state old powered pending faults) (faulty_state new powered pending faults)
+pub passed_commanded : (order : Order) (result : Reply) (old new : DeviceState) (powered : Bool) (pending rest : List FaultSpec) (faults count : ℕ)
+    → Commanded order result old new → Spares (command_of order) (zones_of order) pending rest faults count → powered ≡ true → old.world ≡ calm old.world.truth → old.faults ≡ 0 → new.faults ≡ 0
+    → Commanded order result (faulty_state old powered pending faults) (faulty_state new powered rest count)
 unfolding geometry_of
-passed_commanded order result old new powered pending faults h is_calm faultless still on none =
-    let same : _ = through old.world order powered pending is_calm on none in
+passed_commanded order result old new powered pending rest faults count h spares on is_calm faultless still =
+    let same : _ = through old.world order powered pending is_calm on spares.met in
     record {
       obeys = record {
         reply = λ answered. h.obeys.reply answered ∙ sym (ap (λ (o : Outcome). o.reply) same);
         world = λ answered.
-            ap (λ (b : Bool). let w : World = record { truth = new.world.truth; powered = b; pending = pending; armed = None } in w) on
+            ap (λ (b : Bool). let w : World = record { truth = new.world.truth; powered = b; pending = rest; armed = None } in w) on
+            ∙ ap (λ (l : List FaultSpec). let w : World = record { truth = new.world.truth; powered = true; pending = l; armed = None } in w) spares.rest
             ∙ ap (λ (v : World). let w : World = record { truth = v.truth; powered = true; pending = pending; armed = None } in w) (h.obeys.world answered)
             ∙ sym (ap (λ (o : Outcome). o.world) same);
         geometry = h.obeys.geometry;
@@ -91,7 +82,7 @@ passed_commanded order result old new powered pending faults h is_calm faultless
         cause = record {
           later = omega arith;
           fault = λ is. absurd (no_own_fault old.faults new.faults faultless still (h.caused.cause.fault is));
-          kept = λ ok. refl;
+          kept = λ ok. spares.count;
           no_fewer = h.caused.cause.no_fewer;
           broken = h.caused.cause.broken;
           whole = h.caused.cause.whole;
@@ -101,7 +92,7 @@ passed_commanded order result old new powered pending faults h is_calm faultless
         keeps = h.caused.keeps;
         powered = λ is. on;
         still_powered = λ is. on;
-        no_fault = λ answered pending. refl;
+        no_fault = λ answered same_pending. spares.count;
       };
       named = λ keeps refused. h.named keeps (sym (ap (λ (o : Outcome). is_refused o.reply) same) ∙ refused);
     }
@@ -116,28 +107,27 @@ fewer_differ : (new old : List FaultSpec) → length new + 1 ≡ length old → 
 fewer_differ new old fewer same = omega (arith, ap length same)
 
 -- the fault is used up and counted, and the device within does what the fault lets it
-pub struck_commanded : (order : Order) (fault : FaultSpec) (result : Reply) (old new : DeviceState) (powered : Bool) (pending rest : List FaultSpec) (faults : ℕ)
-    → Struck order fault result old new → powered ≡ true → Some fault ≡ met (command_of order) (zones_of order) pending → rest ≡ unmet (command_of order) (zones_of order) pending
-    → length rest + 1 ≡ length pending → faults < 2 ^ 64
-    → Commanded order result (faulty_state old powered pending faults) (faulty_state new powered rest (one_more faults))
+pub struck_commanded : (order : Order) (fault : FaultSpec) (result : Reply) (old new : DeviceState) (powered : Bool) (pending rest : List FaultSpec) (faults count : ℕ)
+    → Struck order fault result old new → Strikes (command_of order) (zones_of order) fault pending rest faults count → powered ≡ true
+    → Commanded order result (faulty_state old powered pending faults) (faulty_state new powered rest count)
 unfolding geometry_of
-struck_commanded order fault result old new powered pending rest faults h on is_met is_rest fewer small =
-    let same : _ = fails old.world order powered pending fault on is_met in
+struck_commanded order fault result old new powered pending rest faults count h strikes on =
+    let same : _ = fails old.world order powered pending fault on strikes.met in
     record {
       obeys = record {
         reply = λ answered. h.reply answered ∙ sym (ap (λ (o : Outcome). o.reply) same);
         world = λ answered.
             ap (λ (b : Bool). let w : World = record { truth = new.world.truth; powered = b; pending = rest; armed = None } in w) on
             ∙ ap (λ (t : Truth). let w : World = record { truth = t; powered = true; pending = rest; armed = None } in w) (h.truth answered)
-            ∙ ap (λ (l : List FaultSpec). let w : World = record { truth = (faulted old.world.truth order fault).truth; powered = true; pending = l; armed = None } in w) is_rest
+            ∙ ap (λ (l : List FaultSpec). let w : World = record { truth = (faulted old.world.truth order fault).truth; powered = true; pending = l; armed = None } in w) strikes.rest
             ∙ sym (ap (λ (o : Outcome). o.world) same);
         geometry = h.geometry;
       };
       caused = record {
         spoilt = h.spoilt;
         cause = record {
-          later = omega arith;
-          fault = λ is. omega arith;
+          later = strikes.later;
+          fault = λ is. omega (arith, strikes.count);
           kept = λ ok. absurd (not_both result h.failed ok);
           no_fewer = h.no_fewer;
           broken = h.broken;
@@ -148,14 +138,14 @@ struck_commanded order fault result old new powered pending rest faults h on is_
         keeps = h.keeps;
         powered = λ is. on;
         still_powered = λ is. on;
-        no_fault = λ answered unchanged. absurd (fewer_differ rest pending fewer unchanged);
+        no_fault = λ answered unchanged. absurd (fewer_differ rest pending strikes.fewer unchanged);
       };
       named = λ keeps refused. h.named keeps (sym (ap (λ (o : Outcome). is_refused o.reply) same) ∙ refused);
     }
 
 -- ---- what the device within does where a fault meets the command
 
--- a command other than a write or a flush does nothing
+-- a command of which nothing is done
 pub nothing_struck : (order : Order) (fault : FaultSpec) (s : DeviceState) → faulted s.world.truth order fault ≡ record { reply = Err Fault; truth = s.world.truth } → s.spoilt ≡ false
     → Struck order fault (Err Fault) s s
 nothing_struck order fault s is unspoilt = record {
@@ -172,3 +162,15 @@ nothing_struck order fault s is unspoilt = record {
   geometry = refl;
   named = λ keeps refused broken. cc;
 }
+
+pub read_struck : (z at n : ℕ) (fault : FaultSpec) (s : DeviceState) → s.spoilt ≡ false → Struck (ReadAt z at n) fault (Err Fault) s s
+unfolding faulted
+read_struck z at n fault s unspoilt = nothing_struck (ReadAt z at n) fault s refl unspoilt
+
+pub manage_struck : (z : ℕ) (op : ZoneOp) (fault : FaultSpec) (s : DeviceState) → s.spoilt ≡ false → Struck (Manage z op) fault (Err Fault) s s
+unfolding faulted
+manage_struck z op fault s unspoilt = nothing_struck (Manage z op) fault s refl unspoilt
+
+pub report_struck : (first n : ℕ) (fault : FaultSpec) (s : DeviceState) → s.spoilt ≡ false → Struck (ReportFrom first n) fault (Err Fault) s s
+unfolding faulted
+report_struck first n fault s unspoilt = nothing_struck (ReportFrom first n) fault s refl unspoilt

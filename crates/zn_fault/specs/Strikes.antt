@@ -1,14 +1,30 @@
--- What a command that a fault meets makes of the device within. (own)
-use Rattle.std.specs.Prelude.{◌≡◌, ℕ, ◌≤◌, true, not, Result, Ok, Err, IsErr, IsErrOf}
-use Rattle.zn_base.specs.Causes.{Rose}
+-- Which fault strikes a command, and what the command then makes of the device within. (own)
+use Rattle.std.specs.Prelude.{◌≡◌, ℕ, ◌+◌, ◌≤◌, true, not, List, length, Some, None, Result, Ok, Err, IsErr, IsErrOf}
+use Rattle.zn_base.specs.Causes.{Rose, one_more}
+use Rattle.zn_truth.specs.declared.Command.{Command}
+use Rattle.zn_truth.specs.declared.Span.{Span}
 use Rattle.zn_truth.specs.declared.DevError.{DevError}
 use Rattle.zn_truth.specs.declared.DevError.TheVariants.{Broken}
 use Rattle.zn_truth.specs.declared.FaultSpec.{FaultSpec}
 use Rattle.zn_truth.specs.Orders.{Order, Reply}
-use Rattle.zn_truth.specs.World.{geometry_of, faulted}
+use Rattle.zn_truth.specs.World.{geometry_of, met, unmet, faulted}
 use Rattle.zn_truth.specs.Obeying.{is_answered, IsAnswered}
 use Rattle.zn_device.specs.Causes.{IsMemoryFree, is_refused}
 use Rattle.zn_device.specs.States.{DeviceState}
+
+-- no fault that waits strikes a command of this kind on these zones: none is used up, and none is counted
+pub record Spares (command : Command) (zones : Span) (pending left : List FaultSpec) (faults now : ℕ) : Type 0 where
+  pub met : None ≡ met command zones pending
+  pub rest : left ≡ pending
+  pub count : now ≡ faults
+
+-- the first fault that such a command meets strikes it: it is used up, and counted
+pub record Strikes (command : Command) (zones : Span) (fault : FaultSpec) (pending left : List FaultSpec) (faults now : ℕ) : Type 0 where
+  pub met : Some fault ≡ met command zones pending
+  pub rest : left ≡ unmet command zones pending
+  pub fewer : length left + 1 ≡ length pending
+  pub count : now ≡ one_more faults
+  pub later : faults ≤ now
 
 -- The answer, which is none of success, and what the device within then holds are those of the fault, unless that
 -- device breaks or memory is wanting, and only then it is spoilt.
