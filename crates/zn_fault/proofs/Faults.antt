@@ -1,20 +1,17 @@
 -- A device with faults that wait, over one that has none.
-use Rattle.std.proofs.Common.{◌≡◌, ℕ, ◌+◌, ◌<◌, ◌≤◌, ◌^◌, Bool, true, false, List, length, Option, Some, None, Ok, Err, refl, sym, ap, ◌∙◌, subst, arith}
-use Rattle.std.specs.Prelude.{not, IsOk, IsErr, IsErrOf}
+use Rattle.std.proofs.Common.{◌≡◌, ℕ, ◌+◌, Bool, true, false, List, length, None, Ok, Err, refl, sym, ap, ◌∙◌, arith}
+use Rattle.std.specs.Prelude.{IsOk, IsErr}
 use Rattle.std.proofs.lemmas.Bool.{false≢true}
-use Rattle.zn_base.specs.Causes.{one_more, Rose}
-use Rattle.zn_truth.specs.declared.DevError.{DevError}
-use Rattle.zn_truth.specs.declared.DevError.TheVariants.{Fault, PowerLost, Broken, Memory}
+use Rattle.zn_base.specs.Causes.{Rose}
+use Rattle.zn_truth.specs.declared.DevError.TheVariants.{Fault, PowerLost}
 use Rattle.zn_truth.specs.declared.FaultSpec.{FaultSpec}
 use Rattle.zn_truth.specs.declared.ZoneOp.{ZoneOp}
-use Rattle.zn_truth.specs.Truth.{Geometry, Truth, geometry}
-use Rattle.zn_truth.specs.Limits.{IsWithinLimits}
+use Rattle.zn_truth.specs.Truth.{Truth}
 use Rattle.zn_truth.specs.Orders.{Order, ReadAt, Manage, ReportFrom, Reply, Done}
-use Rattle.zn_truth.specs.World.{World, Outcome, geometry_of, issue, calm, met, unmet, command_of, zones_of, faulted}
-use Rattle.zn_truth.specs.Obeying.{Obeys, IsAnswered, is_answered}
+use Rattle.zn_truth.specs.World.{World, Outcome, geometry_of, issue, calm, command_of, zones_of, faulted}
 use Rattle.zn_truth.proofs.Issuing.{through, fails}
 use Rattle.zn_device.specs.Causes.{is_refused}
-use Rattle.zn_device.specs.States.{DeviceState, Caused, Commanded}
+use Rattle.zn_device.specs.States.{DeviceState, Commanded}
 use Rattle.zn_fault.specs.FaultState.{faulty_state}
 use Rattle.zn_fault.specs.Strikes.{Spares, Strikes, Struck}
 

@@ -1,20 +1,15 @@
 -- A device without faults of its own that is asked, and harmed.
-use Rattle.std.proofs.Common.{◌≡◌, ℕ, ◌+◌, ◌<◌, ◌≤◌, Bool, true, false, List, length, Option, Some, None, Ok, Err, refl, sym, ap, ◌∙◌, subst, arith}
-use Rattle.std.specs.Prelude.{◌&&◌, not, IsOk, IsErr, IsErrOf, nat_lt, nat_le}
-use Rattle.std.proofs.lemmas.Bool.{false≢true}
+use Rattle.std.proofs.Common.{◌≡◌, ℕ, Bool, true, false, length, None, Ok, refl, sym, ap, ◌∙◌, subst, arith}
+use Rattle.std.specs.Prelude.{◌&&◌, nat_lt}
 use Rattle.std.proofs.lemmas.Bool.Decides.{nat_tests}
 use Rattle.std.proofs.lemmas.List.{get_or_past}
 use Rattle.zn_base.specs.Causes.{Rose}
-use Rattle.zn_truth.specs.declared.Cond.{Cond}
 use Rattle.zn_truth.specs.declared.Kind.{Kind}
 use Rattle.zn_truth.specs.declared.Kind.TheVariants.{Conventional, Sequential}
-use Rattle.zn_truth.specs.declared.DevError.{DevError}
-use Rattle.zn_truth.specs.declared.DevError.TheVariants.{Fault, Broken, Memory}
-use Rattle.zn_truth.specs.Truth.{Truth, Zone, zone_at, with_zone, no_zone, kind_at, geometry, is_sequential, is_good}
-use Rattle.zn_truth.specs.Orders.{Order, ReportFrom, Reply, Done, done}
+use Rattle.zn_truth.specs.Truth.{Truth, Zone, zone_at, with_zone, no_zone, kind_at, is_sequential, is_good}
+use Rattle.zn_truth.specs.Orders.{ReportFrom, Reply, done}
 use Rattle.zn_truth.specs.Power.{settled, clamped}
 use Rattle.zn_truth.specs.World.{World, Outcome, geometry_of, issue, calm, settled_by_flush}
-use Rattle.zn_truth.specs.Obeying.{IsAnswered, is_answered}
 use Rattle.zn_truth.proofs.Issuing.{calm_done, kinds-length, kind_is, not_settled, is_settled}
 use Rattle.zn_device.specs.States.{DeviceState, Commanded}
 use Rattle.zn_device.specs.Harms.{Harmed}

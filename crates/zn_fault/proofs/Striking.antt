@@ -1,16 +1,14 @@
 -- What a fault lets a device do.
-use Rattle.std.proofs.Common.{◌≡◌, ℕ, [], ◌+◌, ◌*◌, ◌/◌, ◌<◌, ◌≤◌, min, max, Bool, true, false, List, length, take, Option, Some, None, Ok, Err, refl, sym, ap, ◌∙◌, subst, arith}
-use Rattle.std.specs.Prelude.{◌&&◌, ◌≢◌, not, unwrap_or, IsOk, IsErr, IsErrOf, nat_lt, nat_le}
+use Rattle.std.proofs.Common.{◌≡◌, ℕ, [], ◌*◌, ◌/◌, ◌<◌, min, List, length, take, None, Ok, Err, refl, sym, ap, ◌∙◌, arith}
+use Rattle.std.specs.Prelude.{not, unwrap_or, IsErr, IsErrOf}
 use Rattle.std.proofs.lemmas.Bool.{false≢true}
 use Rattle.std.proofs.lemmas.Grind.{common_steps}
-use Rattle.zn_base.specs.Causes.{Rose}
-use Rattle.zn_truth.specs.declared.DevError.{DevError}
-use Rattle.zn_truth.specs.declared.DevError.TheVariants.{ReadOnly, Offline, Unaligned, TooManyActive, TooManyOpen, BeyondWp, Fault, PowerLost, Broken, Memory}
+use Rattle.zn_truth.specs.declared.DevError.TheVariants.{Fault, Broken, Memory}
 use Rattle.zn_truth.specs.declared.FaultSpec.{FaultSpec}
 use Rattle.zn_truth.specs.Truth.{Truth}
 use Rattle.zn_truth.specs.Orders.{Order, WriteAt, FlushAll, Reply, Done, done}
-use Rattle.zn_truth.specs.World.{World, Outcome, geometry_of, issue, calm, outcome, as_fault, broken_off, faulted, settled_by_flush}
-use Rattle.zn_truth.specs.Obeying.{IsAnswered, is_answered}
+use Rattle.zn_truth.specs.World.{World, Outcome, issue, calm, outcome, as_fault, broken_off, faulted, settled_by_flush}
+use Rattle.zn_truth.specs.Obeying.{is_answered}
 use Rattle.zn_truth.proofs.Issuing.{calm_done}
 use Rattle.zn_device.specs.Causes.{is_refused}
 use Rattle.zn_device.specs.States.{DeviceState, Commanded}

@@ -1,9 +1,8 @@
 -- A zone that turns.
-use Rattle.std.proofs.Common.{◌≡◌, ℕ, [], ◌<◌, ◌≤◌, Bool, true, false, List, length, None, Ok, Err, refl, sym, ap, ◌∙◌, subst, arith, nat_le}
-use Rattle.std.specs.Prelude.{◌||◌, not, IsErrOf, nat_lt, if◌then◌else◌}
+use Rattle.std.proofs.Common.{◌≡◌, ℕ, Bool, true, false, List, None, Ok, Err, refl, sym, ap, ◌∙◌, subst, arith, nat_le}
+use Rattle.std.specs.Prelude.{◌||◌, not, IsErrOf}
 use Rattle.std.proofs.lemmas.Bool.{false≢true, true≢false}
 use Rattle.std.proofs.lemmas.Grind.{common_steps}
-use Rattle.zn_base.specs.Causes.{Rose}
 use Rattle.zn_truth.specs.declared.Cond.{Cond}
 use Rattle.zn_truth.specs.declared.DevError.{DevError}
 use Rattle.zn_truth.specs.declared.DevError.TheVariants.{ReadOnly, Offline, Unaligned, TooManyActive, TooManyOpen, BeyondWp, Fault, PowerLost, Broken, Memory}
