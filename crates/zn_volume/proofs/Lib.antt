@@ -16,3 +16,6 @@ pub mod MountAnswers
 pub mod Zone0
 pub mod MountCauses
 pub mod Mounted
+pub mod HandlesAlike
+pub mod Recovering
+pub mod Leaving
