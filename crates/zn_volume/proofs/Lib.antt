@@ -19,3 +19,6 @@ pub mod Mounted
 pub mod HandlesAlike
 pub mod Recovering
 pub mod Leaving
+pub mod Unstruck
+pub mod Untroubled
+pub mod Answering

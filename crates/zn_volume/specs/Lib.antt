@@ -8,3 +8,4 @@ pub mod Paths
 pub mod Refusals
 pub mod IoErrors
 pub mod RecoveryLaws
+pub mod Untroubled

@@ -1,5 +1,11 @@
-// Laws of failed commands, each the contract of a function that does nothing.
+// Laws of failed commands, and of calls that nothing stands against, each the contract of a function that does
+// nothing.
 ghost use Rattle.zn_volume.specs.RecoveryLaws.{HandlesAlike, RecoveryOfAnswered, ReportLeaves, FaultLeaves, RefusalLeaves};
+ghost use Rattle.zn_volume.specs.Untroubled.{LiesOnDevice, ReadAnswers};
+ghost use Rattle.zn_volume.specs.VolumeState.{mounted_in};
+
+use crate::volume::Volume;
+use zn_device::Zoned;
 
 /// Handles that are open on one file, in one mode, are answered alike.
 pub fn handles_are_alike()
@@ -25,3 +31,17 @@ pub fn fault_leaves()
 pub fn refusal_leaves()
     ensures { RefusalLeaves }
 {}
+
+/// What a volume keeps to.
+pub fn lies_on_device<D: Zoned + Drop>(volume: &Volume<D>)
+    ensures { LiesOnDevice (mounted_in volume.now) }
+{
+    let _ = volume.inodes.files();
+}
+
+/// Where nothing stands against a read.
+pub fn read_answers<D: Zoned + Drop>(volume: &Volume<D>)
+    ensures { ReadAnswers (mounted_in volume.now) }
+{
+    lies_on_device(volume);
+}
