@@ -21,4 +21,5 @@ pub mod Recovering
 pub mod Leaving
 pub mod Unstruck
 pub mod Untroubled
+pub mod Passing
 pub mod Answering

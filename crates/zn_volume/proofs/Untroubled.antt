@@ -8,7 +8,7 @@ use Rattle.zn_truth.specs.declared.Cond.TheVariants.{Good, ReadOnly as read_only
 use Rattle.zn_truth.specs.declared.DevError.{DevError}
 use Rattle.zn_truth.specs.declared.DevError.TheVariants.{ReadOnly, Offline, Unaligned, TooManyActive, TooManyOpen, BeyondWp, Fault, PowerLost, Broken, Memory}
 use Rattle.zn_truth.specs.declared.ZoneOp.{ZoneOp}
-use Rattle.zn_truth.specs.declared.ZoneOp.TheVariants.{Close}
+use Rattle.zn_truth.specs.declared.ZoneOp.TheVariants.{Open, Close}
 use Rattle.zn_truth.specs.FailureLaws.{FailsAt, IsNamedBy, HasNamedCondition, IsInRange}
 use Rattle.zn_truth.specs.Truth.{Truth, zone_at, is_good, IsSound}
 use Rattle.zn_truth.specs.Orders.{Order, ReadAt, WriteAt, Manage, FlushAll, Reply, refusal, reading, changing}
@@ -92,3 +92,94 @@ bytes_read w file shown offset len sound is single size unstruck zones shows err
   where
     nothing : (issue_all w []).reply ≡ Err error → ⊥
     nothing h = cc
+
+-- ---- zone commands
+
+-- a command that manages a good zone of the file fails for a limit alone
+manage_limits : (w : World) (op : ZoneOp) (file : FileZones) (error : DevError) → 0 < file.zones → HasGoodZones w.truth file → IsUnstruck w (Manage file.first op ∷ [])
+    → (issue w (Manage file.first op)).reply ≡ Err error → is_limit error ≡ true
+manage_limits w op file error some zones unstruck failed = by_error error (refuses_so w.truth (Manage file.first op) error (one_refused w (Manage file.first op) error unstruck failed)) (failure_named w (Manage file.first op) error failed).means
+  where
+    by_error : (error : DevError) → is_refusal error ≡ true → IsNamedBy error (Manage file.first op) w.truth → is_limit error ≡ true
+    by_error ReadOnly so named = absurd (no_bad_zone w.truth file zones (first_bad w.truth file read_only_zone some named refl))
+    by_error Offline so named = absurd (no_bad_zone w.truth file zones (first_bad w.truth file offline_zone some named refl))
+    by_error Unaligned so named = absurd named
+    by_error BeyondWp so named = absurd named
+    by_error TooManyActive so named = refl
+    by_error TooManyOpen so named = refl
+    by_error _ so named = absurd (false≢true so)
+
+pub open_limits : (w : World) (file : FileZones) (error : DevError) → 0 < file.zones → HasGoodZones w.truth file → IsUnstruck w (Manage file.first Open ∷ [])
+    → (issue w (Manage file.first Open)).reply ≡ Err error → is_limit error ≡ true
+open_limits w file error some zones unstruck failed = manage_limits w Open file error some zones unstruck failed
+
+-- no limit refuses a close
+closing_says : (c : Cond) (error : DevError) → changing c None ≡ Some error → is_good c ≡ false
+closing_says Good error h = absurd (cc)
+closing_says read_only_zone error h = refl
+closing_says offline_zone error h = refl
+
+pub zone_closes : (w : World) (file : FileZones) (error : DevError) → 0 < file.zones → HasGoodZones w.truth file → IsUnstruck w (Manage file.first Close ∷ [])
+    → (issue w (Manage file.first Close)).reply ≡ Err error → ⊥
+zone_closes w file error some zones unstruck failed =
+    no_bad_zone w.truth file zones (first_bad w.truth file (zone_at w.truth file.first).cond some refl
+    (closing_says (zone_at w.truth file.first).cond error (one_refused w (Manage file.first Close) error unstruck failed)))
+
+-- the commands of a truncation fail for a limit alone
+pub truncate_limits : (w : World) (file : FileZones) (shown : Shown) (size : ℕ) (error : DevError) → 0 < file.zones → HasGoodZones w.truth file → IsUnstruck w (truncate_orders file shown size)
+    → (issue_all w (truncate_orders file shown size)).reply ≡ Err error → is_limit error ≡ true
+truncate_limits w file shown size error some zones unstruck failed =
+    let fails = failure_has_order w (truncate_orders file shown size) error failed in
+    let is = (truncate_order w file shown size error fails).is in
+    by_error (truncate_order w file shown size error fails).op (issue_all w fails.before).world.truth error (refuses_so (issue_all w fails.before).world.truth fails.order error (refused_there w (truncate_orders file shown size) error unstruck fails))
+    (subst (λ (o : Order). IsNamedBy error o (issue_all w fails.before).world.truth) is fails.named.means)
+    (subst (λ (o : Order). HasNamedCondition error o w.truth) is fails.condition)
+  where
+    by_error : (op : ZoneOp) (t : Truth) (error : DevError) → is_refusal error ≡ true → IsNamedBy error (Manage file.first op) t → HasNamedCondition error (Manage file.first op) w.truth → is_limit error ≡ true
+    by_error op t ReadOnly so named had = absurd (no_bad_zone w.truth file zones (first_bad w.truth file read_only_zone some had refl))
+    by_error op t Offline so named had = absurd (no_bad_zone w.truth file zones (first_bad w.truth file offline_zone some had refl))
+    by_error op t Unaligned so named had = absurd named
+    by_error op t BeyondWp so named had = absurd named
+    by_error op t TooManyActive so named had = refl
+    by_error op t TooManyOpen so named had = refl
+    by_error op t _ so named had = absurd (false≢true so)
+
+-- ---- flushes
+
+-- nothing refuses a flush
+pub flush_done : (w : World) (error : DevError) → IsUnstruck w (FlushAll ∷ []) → (issue w FlushAll).reply ≡ Err error → ⊥
+flush_done w error unstruck failed = none (one_refused w FlushAll error unstruck failed)
+  where
+    none : refusal w.truth FlushAll ≡ Some error → ⊥
+    none h = cc
+
+-- ---- writes
+
+-- a write of bytes to the file fails for a limit alone
+pub write_limits : (w : World) (file : FileZones) (shown : Shown) (offset : ℕ) (bytes : List ℕ) (error : DevError) → IsFile (geometry_of w) file → (file.seq ≡ true → file.zones ≡ 1)
+    → IsWritable (shape_of w) file shown offset (length bytes) → (file.seq ≡ true → offset ≡ shown.size) → HasGoodZones w.truth file → ShowsHeld w.truth file shown
+    → IsUnstruck w (writes (area_of (shape_of w) file offset (length bytes)) bytes) → (issue_all w (writes (area_of (shape_of w) file offset (length bytes)) bytes)).reply ≡ Err error → is_limit error ≡ true
+write_limits w file shown offset bytes error is single writable at_end zones shows unstruck failed =
+    let lies = area_lies (geometry_of w) file shown offset (length bytes) is writable in
+    let within = zones_inside (offset / 4096 + length bytes / 4096) file.zones (zone_room_of (shape_of w) file) lies.room (omega (arith, lies.some)) lies.inside in
+    let a = area_of (shape_of w) file offset (length bytes) in
+    let fails : FailsAt w (writes (area_of (shape_of w) file offset (length bytes)) bytes) error = failure_has_order w (writes a bytes) error failed in
+    let at : IsInRange (write_in (area_of (shape_of w) file offset (length bytes)) bytes) (zone_from (area_of (shape_of w) file offset (length bytes))) (zone_to (area_of (shape_of w) file offset (length bytes))) fails.order =
+    each_is_in_range (write_in a bytes) (zone_from a) (zone_to a) fails.before fails.order fails.after fails.parts in
+    by_error at.index (issue_all w fails.before).world.truth error fails (omega (arith, within)) (λ sequential. omega (arith, at_end sequential, writable.aligned))
+    (refuses_so (issue_all w fails.before).world.truth fails.order error (refused_there w (writes a bytes) error unstruck fails))
+    (subst (λ (o : Order). IsNamedBy error o (issue_all w fails.before).world.truth) at.is fails.named.means)
+  where
+    by_error : (i : ℕ) (t : Truth) (error : DevError) → FailsAt w (writes (area_of (shape_of w) file offset (length bytes)) bytes) error
+        → zone_to (lain (shape_of w) file (offset / 4096) (length bytes / 4096)) ≤ file.zones → (file.seq ≡ true → shown.size ≡ 4096 * (offset / 4096))
+        → is_refusal error ≡ true → IsNamedBy error (write_in (area_of (shape_of w) file offset (length bytes)) bytes i) t → is_limit error ≡ true
+    by_error i t ReadOnly fails within size so named =
+        absurd (no_bad_zone w.truth file zones (write_bad w file (offset / 4096) (length bytes / 4096) bytes ReadOnly read_only_zone within refl (λ z at part has. has) fails))
+    by_error i t Offline fails within size so named =
+        absurd (no_bad_zone w.truth file zones (write_bad w file (offset / 4096) (length bytes / 4096) bytes Offline offline_zone within refl (λ z at part has. has) fails))
+    by_error i t Unaligned fails within size so named =
+        absurd (no_other w.truth file shown shows (write_unaligned w file shown (offset / 4096) (length bytes / 4096) bytes is single within size fails))
+    by_error i t BeyondWp fails within size so named = absurd named
+    by_error i t TooManyActive fails within size so named = refl
+    by_error i t TooManyOpen fails within size so named = refl
+    by_error i t _ fails within size so named = absurd (false≢true so)

@@ -115,9 +115,9 @@ TruncateAnswers m = (h : Handle) (size : ℕ) (live : Live) (refusal : Refusal) 
     → IsUntroubled m live.file (truncating_orders m.volume live.file size)
     → (truncate_call m h size).reply ≡ Err refusal → IsCheckedOrLimit (truncate_refusal m h size) refusal
 
--- a sync is refused by its checks alone, whatever the conditions of the zones
-abbrev pub SyncAnswers : Mounted → Type 0
-SyncAnswers m = (h : Handle) (refusal : Refusal) → IsUnstruck m.world (FlushAll ∷ [])
+-- on every mounted volume a sync is refused by its checks alone, whatever the conditions of the zones
+abbrev pub SyncAnswers : Type 0
+SyncAnswers = (m : Mounted) (h : Handle) (refusal : Refusal) → IsUnstruck m.world (FlushAll ∷ [])
     → (sync_call m h).reply ≡ Err refusal → sync_refusal m h ≡ Some refusal
 
 -- an open of a file is refused by its checks, or for a limit, whatever the file shows

@@ -1,7 +1,7 @@
 // Laws of failed commands, and of calls that nothing stands against, each the contract of a function that does
 // nothing.
 ghost use Rattle.zn_volume.specs.RecoveryLaws.{HandlesAlike, RecoveryOfAnswered, ReportLeaves, FaultLeaves, RefusalLeaves};
-ghost use Rattle.zn_volume.specs.Untroubled.{LiesOnDevice, ReadAnswers};
+ghost use Rattle.zn_volume.specs.Untroubled.{LiesOnDevice, ReadAnswers, SyncAnswers, CloseAnswers};
 ghost use Rattle.zn_volume.specs.VolumeState.{mounted_in};
 
 use crate::volume::Volume;
@@ -42,6 +42,18 @@ pub fn lies_on_device<D: Zoned + Drop>(volume: &Volume<D>)
 /// Where nothing stands against a read.
 pub fn read_answers<D: Zoned + Drop>(volume: &Volume<D>)
     ensures { ReadAnswers (mounted_in volume.now) }
+{
+    lies_on_device(volume);
+}
+
+/// Where nothing stands against a sync.
+pub fn sync_answers()
+    ensures { SyncAnswers }
+{}
+
+/// Where nothing stands against a close.
+pub fn close_answers<D: Zoned + Drop>(volume: &Volume<D>)
+    ensures { CloseAnswers (mounted_in volume.now) }
 {
     lies_on_device(volume);
 }
