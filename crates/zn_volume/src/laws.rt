@@ -1,7 +1,7 @@
 // Laws of failed commands, and of calls that nothing stands against, each the contract of a function that does
 // nothing.
 ghost use Rattle.zn_volume.specs.RecoveryLaws.{HandlesAlike, RecoveryOfAnswered, ReportLeaves, FaultLeaves, RefusalLeaves};
-ghost use Rattle.zn_volume.specs.Untroubled.{LiesOnDevice, ReadAnswers, SyncAnswers, CloseAnswers};
+ghost use Rattle.zn_volume.specs.Untroubled.{LiesOnDevice, ReadAnswers, WriteAnswers, TruncateAnswers, SyncAnswers, OpenAnswers, CloseAnswers};
 ghost use Rattle.zn_volume.specs.VolumeState.{mounted_in};
 
 use crate::volume::Volume;
@@ -46,10 +46,31 @@ pub fn read_answers<D: Zoned + Drop>(volume: &Volume<D>)
     lies_on_device(volume);
 }
 
+/// Where nothing stands against a write.
+pub fn write_answers<D: Zoned + Drop>(volume: &Volume<D>)
+    ensures { WriteAnswers (mounted_in volume.now) }
+{
+    lies_on_device(volume);
+}
+
+/// Where nothing stands against a truncation.
+pub fn truncate_answers<D: Zoned + Drop>(volume: &Volume<D>)
+    ensures { TruncateAnswers (mounted_in volume.now) }
+{
+    lies_on_device(volume);
+}
+
 /// Where nothing stands against a sync.
 pub fn sync_answers()
     ensures { SyncAnswers }
 {}
+
+/// Where nothing stands against an open.
+pub fn open_answers<D: Zoned + Drop>(volume: &Volume<D>)
+    ensures { OpenAnswers (mounted_in volume.now) }
+{
+    lies_on_device(volume);
+}
 
 /// Where nothing stands against a close.
 pub fn close_answers<D: Zoned + Drop>(volume: &Volume<D>)
