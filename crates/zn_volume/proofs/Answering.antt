@@ -31,7 +31,7 @@ use Rattle.zn_model.specs.Writing.{write_call, write_by, write_now, write_at_onc
 use Rattle.zn_model.specs.Reading.{read_call, read_by, read_now, read_orders, read_end, reading_refusal, after_read}
 use Rattle.zn_io.specs.Files.{IsWritable, shape_of}
 use Rattle.zn_volume.specs.Refusals.{power_first, live_first, file_first, refusal_in}
-use Rattle.zn_volume.specs.Untroubled.{LiesOnDevice, IsUnstruck, IsUntroubled, IsUntroubledAtEnd, tells_limit, reading_orders, truncating_orders, opening_orders, closing_orders, ReadAnswers, WriteAnswers, TruncateAnswers, SyncAnswers, OpenAnswers, CloseAnswers}
+use Rattle.zn_volume.specs.Untroubled.{LiesOnDevice, IsUnstruck, IsUntroubled, ShowsHeld, tells_limit, reading_orders, truncating_orders, opening_orders, closing_orders, ReadAnswers, WriteAnswers, TruncateAnswers, SyncAnswers, OpenAnswers, CloseAnswers}
 use Rattle.zn_volume.proofs.Untroubled.{bytes_read, zone_closes, flush_done, open_limits, truncate_limits, write_limits}
 use Rattle.zn_volume.proofs.Unstruck.{IsWaiting, unstruck_waits, waits_after_all, report_answers}
 use Rattle.zn_volume.proofs.Passing.{reading_passes, truncate_passes, opening_passes, WritePasses, write_passes}
@@ -90,23 +90,23 @@ read_now_fails : (given : List ℕ) (m : Mounted) (f offset len : ℕ) (refusal 
 unfolding read_now
 read_now_fails given m f offset len refusal told = after_read_fails (issue_all m.world (reading_orders m.volume f offset len)).reply _ f _ refusal told
 
-read_now_done : (m : Mounted) (f offset len : ℕ) (error : DevError) → LiesOnDevice m → f < length (files_of m.volume.inodes.layout) → IsUntroubledAtEnd m f (reading_orders m.volume f offset len)
+read_now_done : (m : Mounted) (f offset len : ℕ) (error : DevError) → LiesOnDevice m → f < length (files_of m.volume.inodes.layout) → IsUntroubled m f (reading_orders m.volume f offset len) → ShowsHeld m f
     → (issue_all m.world (reading_orders m.volume f offset len)).reply ≡ Err error → ⊥
-read_now_done m f offset len error lies known u failed =
+read_now_done m f offset len error lies known u shows failed =
     bytes_read m.world (file_at m.volume.inodes f) (shown_at m.volume.inodes f) offset len lies.sound (lies.files f known) (lies.single f known) (room_on m f lies known)
-    (subst (λ (shape : Shape). IsUnstruck m.world (read_orders shape (file_at m.volume.inodes f) offset (read_end (shown_at m.volume.inodes f) offset len))) lies.shape u.untroubled.unstruck)
-    u.untroubled.zones u.shows error
+    (subst (λ (shape : Shape). IsUnstruck m.world (read_orders shape (file_at m.volume.inodes f) offset (read_end (shown_at m.volume.inodes f) offset len))) lies.shape u.unstruck)
+    u.zones shows.held error
     (subst (λ (shape : Shape). (issue_all m.world (read_orders shape (file_at m.volume.inodes f) offset (read_end (shown_at m.volume.inodes f) offset len))).reply ≡ Err error) lies.shape failed)
 
 pub read_answers : (m : Mounted) → LiesOnDevice m → ReadAnswers m
-read_answers m lies given h offset len live refusal has u told =
-    let powered = u.untroubled.unstruck.powered in
+read_answers m lies given h offset len live refusal has u shows told =
+    let powered = u.unstruck.powered in
     let behind = ap (λ (a : Answer (List ℕ)). a.reply) (sym (read_call_is given m h offset len live powered has)) ∙ told in
     elim (checked (reading_refusal m.volume live offset) m (read_now given m live.file offset len) refusal behind) [
       | inl is ↦ checks_are m h live (λ live. reading_refusal m.volume live offset) powered has ∙ is
       | inr done ↦
           let failed = read_now_fails given m live.file offset len refusal done.1 in
-          absurd (read_now_done m live.file offset len failed.error lies (readable_known m live.file lies (reading_passes m.volume live offset done.0)) u failed.is)
+          absurd (read_now_done m live.file offset len failed.error lies (readable_known m live.file lies (reading_passes m.volume live offset done.0)) u shows failed.is)
     ]
 
 -- ---- syncs
@@ -313,24 +313,24 @@ after_write_limit pending (Ok unit) m f len refusal waits limit told = absurd (c
 after_write_limit pending (Err error) m f len refusal waits limit told = limit_after {X = Unit {0}} pending error m f refusal waits (limit error refl) told
 
 -- the orders of a write fail for a limit alone
-write_orders_limit : (m : Mounted) (f offset : ℕ) (bytes : List ℕ) (error : DevError) → LiesOnDevice m → WritePasses m.volume f offset (length bytes) → IsUntroubledAtEnd m f (write_orders m.volume f offset bytes)
+write_orders_limit : (m : Mounted) (f offset : ℕ) (bytes : List ℕ) (error : DevError) → LiesOnDevice m → WritePasses m.volume f offset (length bytes) → IsUntroubled m f (write_orders m.volume f offset bytes) → ShowsHeld m f
     → (issue_all m.world (write_orders m.volume f offset bytes)).reply ≡ Err error → is_limit error ≡ true
-write_orders_limit m f offset bytes error lies passed u failed =
+write_orders_limit m f offset bytes error lies passed u shows failed =
     let file = file_at m.volume.inodes f in
     let known = readable_known m f lies passed.may_read in
     write_limits m.world file (shown_at m.volume.inodes f) offset bytes error (lies.files f known) (lies.single f known)
-    (subst (λ (shape : Shape). IsWritable shape (file_at m.volume.inodes f) (shown_at m.volume.inodes f) offset (length bytes)) lies.shape passed.writable) passed.at_end u.untroubled.zones u.shows
-    (subst (λ (shape : Shape). IsUnstruck m.world (writes_of (area_of shape (file_at m.volume.inodes f) offset (length bytes)) bytes)) lies.shape u.untroubled.unstruck)
+    (subst (λ (shape : Shape). IsWritable shape (file_at m.volume.inodes f) (shown_at m.volume.inodes f) offset (length bytes)) lies.shape passed.writable) passed.at_end u.zones shows.held
+    (subst (λ (shape : Shape). IsUnstruck m.world (writes_of (area_of shape (file_at m.volume.inodes f) offset (length bytes)) bytes)) lies.shape u.unstruck)
     (subst (λ (shape : Shape). (issue_all m.world (writes_of (area_of shape (file_at m.volume.inodes f) offset (length bytes)) bytes)).reply ≡ Err error) lies.shape failed)
 
-write_now_limit : (m : Mounted) (f offset : ℕ) (bytes : List ℕ) (refusal : Refusal) → LiesOnDevice m → WritePasses m.volume f offset (length bytes) → IsUntroubledAtEnd m f (write_orders m.volume f offset bytes)
+write_now_limit : (m : Mounted) (f offset : ℕ) (bytes : List ℕ) (refusal : Refusal) → LiesOnDevice m → WritePasses m.volume f offset (length bytes) → IsUntroubled m f (write_orders m.volume f offset bytes) → ShowsHeld m f
     → (write_now m f offset bytes).reply ≡ Err refusal → tells_limit refusal ≡ true
 unfolding write_now
-write_now_limit m f offset bytes refusal lies passed u told =
+write_now_limit m f offset bytes refusal lies passed u shows told =
     let orders = write_orders m.volume f offset bytes in
     after_write_limit m.world.pending (issue_all m.world orders).reply _ f (length bytes) refusal
-    (waits_after_all m.world.pending m.world orders (unstruck_waits m.world orders u.untroubled.unstruck) u.untroubled.unstruck.unmet)
-    (λ error failed. write_orders_limit m f offset bytes error lies passed u failed) told
+    (waits_after_all m.world.pending m.world orders (unstruck_waits m.world orders u.unstruck) u.unstruck.unmet)
+    (λ error failed. write_orders_limit m f offset bytes error lies passed u shows failed) told
 
 write_call_is : (m : Mounted) (h : Handle) (offset : ℕ) (bytes : List ℕ) (live : Live) → m.world.powered ≡ true → live_at m.volume.handles h ≡ Some live
     → write_call m h offset bytes ≡ unless (write_at_once m.volume live offset (length bytes)) m (write_now m live.file offset bytes)
@@ -339,10 +339,10 @@ write_call_is m h offset bytes live powered has =
     ap (λ (b : Bool). if b then write_by (live_at m.volume.handles h) m offset bytes else refused PowerLost m) powered ∙ ap (λ (found : Option Live). write_by found m offset bytes) has
 
 pub write_answers : (m : Mounted) → LiesOnDevice m → WriteAnswers m
-write_answers m lies h offset bytes live refusal has u told =
-    let powered = u.untroubled.unstruck.powered in
+write_answers m lies h offset bytes live refusal has u shows told =
+    let powered = u.unstruck.powered in
     let behind = ap (λ (a : Answer (Unit {0})). a.reply) (sym (write_call_is m h offset bytes live powered has)) ∙ told in
     elim (checked_at_once (write_at_once m.volume live offset (length bytes)) m (write_now m live.file offset bytes) refusal behind) [
       | inl refuses ↦ inl (checks_are m h live (λ live. refusal_in (write_at_once m.volume live offset (length bytes))) powered has ∙ refuses)
-      | inr done ↦ inr (write_now_limit m live.file offset bytes refusal lies (write_passes m.volume live offset (length bytes) done.0) u done.1)
+      | inr done ↦ inr (write_now_limit m live.file offset bytes refusal lies (write_passes m.volume live offset (length bytes) done.0) u shows done.1)
     ]

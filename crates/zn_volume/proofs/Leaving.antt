@@ -12,11 +12,12 @@ use Rattle.zn_truth.specs.declared.ZoneOp.{ZoneOp}
 use Rattle.zn_truth.specs.Truth.{Truth, zone_at, no_zone, with_zone}
 use Rattle.zn_truth.specs.Orders.{Order, ReadAt, WriteAt, Manage, FlushAll, ReportFrom, Reply, Done, refusal, done, done_unless}
 use Rattle.zn_truth.specs.Power.{settled}
-use Rattle.zn_truth.specs.World.{World, Outcome, issue, issue_armed, struck, faulted, settled_by_flush, broken_off, as_fault, met, unmet, meets, command_of, zones_of}
+use Rattle.zn_truth.specs.World.{World, Outcome, issue, issue_armed, struck, faulted, settled_by_flush, broken_off, as_fault, meets, command_of, zones_of}
 use Rattle.zn_truth.proofs.Issuing.{report-truth, is_settled, not_settled}
 use Rattle.zn_truth.proofs.SoundIssue.{if_keeps}
 use Rattle.zn_device.specs.Causes.{is_refused}
 use Rattle.zn_volume.specs.RecoveryLaws.{ReportLeaves, left_by, IsStruck, kept_by, kept_bytes, is_settleable, cut_to, flushed_to, FaultLeaves, RefusalLeaves}
+use Rattle.zn_volume.proofs.Unstruck.{unarmed_issue}
 
 -- ---- reports
 
@@ -43,17 +44,9 @@ report_leaves w first n = if_keeps (Leaves w.truth) w.powered _ _ (report_armed 
 
 -- ---- faults
 
--- with power and without a loss that waits, what is left is by the first fault that is met
-unarmed_leaves : (w : World) (order : Order) (fault : Option FaultSpec) → w.powered ≡ true → w.armed ≡ None → met (command_of order) (zones_of order) w.pending ≡ fault
-    → left_by w order ≡ (struck w.truth w.pending (unmet (command_of order) (zones_of order) w.pending) None order fault).world.truth
-unfolding issue
-unarmed_leaves w order fault powered no_loss is =
-    ap (λ (b : Bool). let o : Outcome = if b then issue_armed w order w.armed else (record { reply = Err PowerLost; world = w }) in o.world.truth) powered
-    ∙ ap (λ (armed : Option Armed). (issue_armed w order armed).world.truth) no_loss
-    ∙ ap (λ (o : Option FaultSpec). (struck w.truth w.pending (unmet (command_of order) (zones_of order) w.pending) None order o).world.truth) is
-
+-- what is left is by the first fault that is met
 fault_leaves_by : (w : World) (order : Order) (fault : FaultSpec) → IsStruck w order fault → left_by w order ≡ (faulted w.truth order fault).truth
-fault_leaves_by w order fault h = unarmed_leaves w order (Some fault) h.powered h.no_loss h.first
+fault_leaves_by w order fault h = ap (λ (o : Outcome). o.world.truth) (unarmed_issue w order (Some fault) h.powered h.no_loss h.first)
 
 read_left : (w : World) (z at n : ℕ) (fault : FaultSpec) → IsStruck w (ReadAt z at n) fault → left_by w (ReadAt z at n) ≡ w.truth
 unfolding faulted

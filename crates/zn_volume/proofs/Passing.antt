@@ -1,23 +1,23 @@
 -- What holds of a file where the checks of a call pass.
-use Rattle.std.proofs.Common.{◌≡◌, ℕ, ◌+◌, ◌*◌, ◌%◌, ◌<◌, ◌≤◌, Bool, true, false, List, [], ◌∷◌, length, Option, Some, None, Ok, Err, Result, refl, sym, ap, ◌∙◌, subst, arith}
-use Rattle.std.specs.Prelude.{if◌then◌else◌, not, ◌&&◌, ◌||◌, ◌==◌, nat_lt, sum_by, IsTrue}
+use Rattle.std.proofs.Common.{◌≡◌, ℕ, ◌+◌, ◌%◌, ◌<◌, ◌≤◌, Bool, true, false, List, [], ◌∷◌, length, Option, Some, None, Ok, Err, Result, refl, ap, ◌∙◌, arith}
+use Rattle.std.specs.Prelude.{if◌then◌else◌, not, ◌&&◌, ◌||◌, ◌==◌, nat_lt, sum_by}
 use Rattle.std.specs.List.{list_any}
 use Rattle.std.proofs.lemmas.Bool.Decides.{nat_tests}
 use Rattle.std.proofs.lemmas.List.Sums.{sum_by-cons}
 use Rattle.zn_truth.specs.declared.Shape.{Shape}
 use Rattle.zn_model.specs.declared.answers.Refusal.{Refusal}
-use Rattle.zn_model.specs.declared.answers.Refusal.TheVariants.{FileOffline, FileReadOnly, FsReadOnly, BadMode, NotAllowed, Unaligned, TooBig, BadOffset, Busy, TooManyHandles}
+use Rattle.zn_model.specs.declared.answers.Refusal.TheVariants.{FileOffline, FsReadOnly, BadMode, NotAllowed, Unaligned, TooBig, BadOffset, TooManyHandles}
 use Rattle.zn_model.specs.declared.files.FileZones.{FileZones}
 use Rattle.zn_model.specs.declared.files.Shown.{Shown}
 use Rattle.zn_model.specs.declared.handles.Mode.{Mode}
 use Rattle.zn_model.specs.declared.handles.Who.{Who}
 use Rattle.zn_model.specs.ZoneFiles.{capacity_of}
 use Rattle.zn_model.specs.Access.{reads, writes}
-use Rattle.zn_model.specs.Volume.{Volume, Live, Queue, Request, file_at, shown_at, is_queued, queued_bytes, issued_end}
+use Rattle.zn_model.specs.Volume.{Volume, Live, Request, file_at, shown_at, is_queued, queued_bytes, issued_end}
 use Rattle.zn_model.specs.CallAnswers.{rights_refusal, busy_refusal, or_else, as_refused}
 use Rattle.zn_model.specs.Reading.{reading_refusal}
-use Rattle.zn_model.specs.Writing.{write_at_once, area_refusal, rights_then, unless_empty}
-use Rattle.zn_model.specs.Truncating.{truncate_at_once, new_size_refusal, unless_same}
+use Rattle.zn_model.specs.Writing.{write_at_once, area_refusal, rights_then}
+use Rattle.zn_model.specs.Truncating.{truncate_at_once, unless_same}
 use Rattle.zn_model.specs.OpenClose.{opening_refusal}
 use Rattle.zn_io.specs.Files.{IsWritable}
 

@@ -1,5 +1,5 @@
 -- Orders that nothing strikes fail only where the device refuses one of them.
-use Rattle.std.proofs.Common.{◌≡◌, ◌⊎◌, ℕ, Bool, true, false, List, [], ◌∷◌, ◌++◌, Option, Some, None, Ok, Err, refl, sym, ap, ◌∙◌, subst, inl, inr}
+use Rattle.std.proofs.Common.{◌≡◌, ◌⊎◌, ℕ, Bool, true, List, [], ◌∷◌, ◌++◌, Option, Some, None, Ok, Err, refl, sym, ap, ◌∙◌, subst, inl, inr}
 use Rattle.std.specs.Prelude.{All, if◌then◌else◌}
 use Rattle.std.proofs.lemmas.Bool.{false≢true}
 use Rattle.std.proofs.lemmas.List.Elements.{All-nil, All-cons, All-head, All-tail}
@@ -9,8 +9,7 @@ use Rattle.zn_truth.specs.declared.FaultSpec.{FaultSpec}
 use Rattle.zn_truth.specs.declared.Armed.{Armed}
 use Rattle.zn_truth.specs.FailureLaws.{FailsAt}
 use Rattle.zn_truth.specs.Truth.{Truth}
-use Rattle.zn_truth.specs.Orders.{Order, ReportFrom, Reply, refusal, done, done_unless}
-use Rattle.zn_truth.specs.Obeying.{is_answered}
+use Rattle.zn_truth.specs.Orders.{Order, ReportFrom, refusal, done, done_unless}
 use Rattle.zn_truth.specs.OrderLists.{issue_all}
 use Rattle.zn_truth.specs.World.{World, Outcome, issue, issue_armed, struck, faulted, outcome, met, unmet, command_of, zones_of}
 use Rattle.zn_truth.proofs.Issuing.{is_refusal, done_answers, done_no_fault}
@@ -29,7 +28,7 @@ pub record IsWaiting (pending : List FaultSpec) (w : World) : Type 0 where
   pub waits : w.pending ≡ pending
 
 -- an order is done, or meets the first fault that waits for it
-unarmed_issue : (w : World) (order : Order) (fault : Option FaultSpec) → w.powered ≡ true → w.armed ≡ None → met (command_of order) (zones_of order) w.pending ≡ fault
+pub unarmed_issue : (w : World) (order : Order) (fault : Option FaultSpec) → w.powered ≡ true → w.armed ≡ None → met (command_of order) (zones_of order) w.pending ≡ fault
     → issue w order ≡ struck w.truth w.pending (unmet (command_of order) (zones_of order) w.pending) None order fault
 unfolding issue
 unarmed_issue w order fault powered no_loss is =

@@ -1,17 +1,17 @@
 -- The commands of a call on a file that nothing stands against.
-use Rattle.std.proofs.Common.{◌≡◌, ◌⊎◌, ℕ, ◌+◌, ◌-◌, ◌*◌, ◌/◌, ◌<◌, ◌≤◌, Bool, true, false, List, [], ◌∷◌, length, Option, Some, None, Ok, Err, refl, sym, ap, ◌∙◌, subst, inl, inr, arith}
+use Rattle.std.proofs.Common.{◌≡◌, ◌⊎◌, ℕ, ◌+◌, ◌-◌, ◌*◌, ◌/◌, ◌<◌, ◌≤◌, Bool, true, false, List, [], ◌∷◌, length, Some, None, Err, refl, sym, ◌∙◌, subst, inl, inr, arith}
 use Rattle.std.specs.Prelude.{if◌then◌else◌}
 use Rattle.std.proofs.lemmas.Bool.{false≢true, cases_lt, lt-ltb, le-ltb}
 use Rattle.std.proofs.lemmas.Option.{same_Some}
 use Rattle.zn_truth.specs.declared.Cond.{Cond}
 use Rattle.zn_truth.specs.declared.Cond.TheVariants.{Good, ReadOnly as read_only_zone, Offline as offline_zone}
 use Rattle.zn_truth.specs.declared.DevError.{DevError}
-use Rattle.zn_truth.specs.declared.DevError.TheVariants.{ReadOnly, Offline, Unaligned, TooManyActive, TooManyOpen, BeyondWp, Fault, PowerLost, Broken, Memory}
+use Rattle.zn_truth.specs.declared.DevError.TheVariants.{ReadOnly, Offline, Unaligned, TooManyActive, TooManyOpen, BeyondWp}
 use Rattle.zn_truth.specs.declared.ZoneOp.{ZoneOp}
 use Rattle.zn_truth.specs.declared.ZoneOp.TheVariants.{Open, Close}
 use Rattle.zn_truth.specs.FailureLaws.{FailsAt, IsNamedBy, HasNamedCondition, IsInRange}
 use Rattle.zn_truth.specs.Truth.{Truth, zone_at, is_good, IsSound}
-use Rattle.zn_truth.specs.Orders.{Order, ReadAt, WriteAt, Manage, FlushAll, Reply, refusal, reading, changing}
+use Rattle.zn_truth.specs.Orders.{Order, ReadAt, Manage, FlushAll, refusal, reading, changing}
 use Rattle.zn_truth.specs.OrderLists.{issue_all}
 use Rattle.zn_truth.specs.World.{World, issue, geometry_of}
 use Rattle.zn_truth.proofs.Failures.{failure_named, failure_has_order, each_is_in_range}
@@ -27,17 +27,21 @@ use Rattle.zn_model.specs.ZoneFiles.{zone_room_of, capacity_of}
 use Rattle.zn_io.specs.Files.{IsFile, IsWritable, shape_of}
 use Rattle.zn_io.proofs.Places.{zones_inside, touched, area_lies, read_lies}
 use Rattle.zn_volume.specs.IoErrors.{HasBadZone, HoldsOther}
-use Rattle.zn_volume.specs.Untroubled.{IsUnstruck, HasGoodZones, ShowsHeld}
-use Rattle.zn_volume.proofs.IoErrors.{lain, first_bad, write_bad, write_unaligned, read_bad, read_beyond, Managing, truncate_order}
+use Rattle.zn_volume.specs.Untroubled.{IsUnstruck, HasGoodZones}
+use Rattle.zn_volume.proofs.IoErrors.{lain, first_bad, write_bad, write_unaligned, read_bad, read_beyond, truncate_order}
 use Rattle.zn_volume.proofs.Unstruck.{one_refused, refused_there, refuses_so}
 
 -- ---- what a file that is untroubled can't have
 
+-- a sequential file shows what its zone holds
+abbrev ShowsAll : Truth → FileZones → Shown → Type 0
+ShowsAll t file shown = file.seq ≡ true → 4096 * (zone_at t file.first).held ≡ shown.size
+
 no_bad_zone : (t : Truth) (file : FileZones) → HasGoodZones t file → HasBadZone t file → ⊥
 no_bad_zone t file zones h = false≢true (sym h.bad ∙ zones.good h.zone h.inside)
 
-no_other : (t : Truth) (file : FileZones) (shown : Shown) → ShowsHeld t file shown → HoldsOther t file shown → ⊥
-no_other t file shown shows h = h.other (shows.held h.sequential)
+no_other : (t : Truth) (file : FileZones) (shown : Shown) → ShowsAll t file shown → HoldsOther t file shown → ⊥
+no_other t file shown shows h = h.other (shows h.sequential)
 
 -- ---- reads
 
@@ -56,7 +60,7 @@ read_says t z at n order error is h =
 -- a read of blocks of the file
 blocks_read : (w : World) (file : FileZones) (shown : Shown) (from blocks : ℕ) → IsSound w.truth → IsFile (geometry_of w) file → (file.seq ≡ true → file.zones ≡ 1)
     → zone_to (lain (shape_of w) file from blocks) ≤ file.zones → ((i : ℕ) → zone_from (lain (shape_of w) file from blocks) ≤ i → i < zone_to (lain (shape_of w) file from blocks) → Touched (lain (shape_of w) file from blocks) i)
-    → ((k : ℕ) → k < from + blocks → 4096 * k < shown.size) → IsUnstruck w (reads (lain (shape_of w) file from blocks)) → HasGoodZones w.truth file → ShowsHeld w.truth file shown
+    → ((k : ℕ) → k < from + blocks → 4096 * k < shown.size) → IsUnstruck w (reads (lain (shape_of w) file from blocks)) → HasGoodZones w.truth file → ShowsAll w.truth file shown
     → (error : DevError) → (issue_all w (reads (lain (shape_of w) file from blocks))).reply ≡ Err error → ⊥
 blocks_read w file shown from blocks sound is single within touched size unstruck zones shows error failed =
     let a = lain (shape_of w) file from blocks in
@@ -74,7 +78,7 @@ blocks_read w file shown from blocks sound is single within touched size unstruc
 
 -- a read of bytes of the file
 pub bytes_read : (w : World) (file : FileZones) (shown : Shown) (offset len : ℕ) → IsSound w.truth → IsFile (geometry_of w) file → (file.seq ≡ true → file.zones ≡ 1)
-    → shown.size ≤ capacity_of (shape_of w) file → IsUnstruck w (read_orders (shape_of w) file offset (read_end shown offset len)) → HasGoodZones w.truth file → ShowsHeld w.truth file shown
+    → shown.size ≤ capacity_of (shape_of w) file → IsUnstruck w (read_orders (shape_of w) file offset (read_end shown offset len)) → HasGoodZones w.truth file → ShowsAll w.truth file shown
     → (error : DevError) → (issue_all w (read_orders (shape_of w) file offset (read_end shown offset len))).reply ≡ Err error → ⊥
 bytes_read w file shown offset len sound is single size unstruck zones shows error failed = elim (cases_lt offset (read_end shown offset len)) [
   | inl some ↦
@@ -157,7 +161,7 @@ flush_done w error unstruck failed = none (one_refused w FlushAll error unstruck
 
 -- a write of bytes to the file fails for a limit alone
 pub write_limits : (w : World) (file : FileZones) (shown : Shown) (offset : ℕ) (bytes : List ℕ) (error : DevError) → IsFile (geometry_of w) file → (file.seq ≡ true → file.zones ≡ 1)
-    → IsWritable (shape_of w) file shown offset (length bytes) → (file.seq ≡ true → offset ≡ shown.size) → HasGoodZones w.truth file → ShowsHeld w.truth file shown
+    → IsWritable (shape_of w) file shown offset (length bytes) → (file.seq ≡ true → offset ≡ shown.size) → HasGoodZones w.truth file → ShowsAll w.truth file shown
     → IsUnstruck w (writes (area_of (shape_of w) file offset (length bytes)) bytes) → (issue_all w (writes (area_of (shape_of w) file offset (length bytes)) bytes)).reply ≡ Err error → is_limit error ≡ true
 write_limits w file shown offset bytes error is single writable at_end zones shows unstruck failed =
     let lies = area_lies (geometry_of w) file shown offset (length bytes) is writable in

@@ -8,7 +8,6 @@ use Rattle.zn_truth.specs.World.{World, geometry_of, met, command_of, zones_of}
 use Rattle.zn_model.specs.declared.answers.Refusal.{Refusal}
 use Rattle.zn_model.specs.declared.answers.Refusal.TheVariants.{TooManyActive, TooManyOpen}
 use Rattle.zn_model.specs.declared.files.FileZones.{FileZones}
-use Rattle.zn_model.specs.declared.files.Shown.{Shown}
 use Rattle.zn_model.specs.declared.handles.Handle.{Handle}
 use Rattle.zn_model.specs.declared.handles.Mode.{Mode}
 use Rattle.zn_model.specs.declared.handles.Who.{Who}
@@ -47,19 +46,14 @@ pub record IsUnstruck (w : World) (orders : List Order) : Type 0 where
 pub record HasGoodZones (t : Truth) (file : FileZones) : Type 0 where
   pub good : (i : ℕ) → i < file.zones → is_good (zone_at t (file.first + i)).cond ≡ true
 
--- a sequential file shows what its zone holds
-pub record ShowsHeld (t : Truth) (file : FileZones) (shown : Shown) : Type 0 where
-  pub held : file.seq ≡ true → BLOCK_SIZE * (zone_at t file.first).held ≡ shown.size
-
--- nothing strikes the commands of a call on a file, and its zones are good
+-- nothing strikes the commands of a call on a file, and the file's zones are good
 pub record IsUntroubled (m : Mounted) (f : ℕ) (orders : List Order) : Type 0 where
   pub unstruck : IsUnstruck m.world orders
   pub zones : HasGoodZones m.world.truth (file_at m.volume.inodes f)
 
--- and the file shows what they hold
-pub record IsUntroubledAtEnd (m : Mounted) (f : ℕ) (orders : List Order) : Type 0 where
-  pub untroubled : IsUntroubled m f orders
-  pub shows : ShowsHeld m.world.truth (file_at m.volume.inodes f) (shown_at m.volume.inodes f)
+-- the file, if it is sequential, shows what its zone holds
+pub record ShowsHeld (m : Mounted) (f : ℕ) : Type 0 where
+  pub held : (file_at m.volume.inodes f).seq ≡ true → BLOCK_SIZE * (zone_at m.world.truth (file_at m.volume.inodes f).first).held ≡ (shown_at m.volume.inodes f).size
 
 -- ---- the refusals that are left
 
@@ -95,18 +89,18 @@ closing_orders v live =
     then Manage (file_at v.inodes live.file).first Close ∷ []
     else []
 
--- ---- the laws
+-- ---- the laws, where nothing stands against the call
 
 -- a read is refused by its checks alone
 abbrev pub ReadAnswers : Mounted → Type 0
 ReadAnswers m = (given : List ℕ) (h : Handle) (offset len : ℕ) (live : Live) (refusal : Refusal) → live_at m.volume.handles h ≡ Some live
-    → IsUntroubledAtEnd m live.file (reading_orders m.volume live.file offset len)
+    → IsUntroubled m live.file (reading_orders m.volume live.file offset len) → ShowsHeld m live.file
     → (read_call given m h offset len).reply ≡ Err refusal → read_refusal m h offset ≡ Some refusal
 
 -- a write is refused by its checks, or for a limit
 abbrev pub WriteAnswers : Mounted → Type 0
 WriteAnswers m = (h : Handle) (offset : ℕ) (bytes : List ℕ) (live : Live) (refusal : Refusal) → live_at m.volume.handles h ≡ Some live
-    → IsUntroubledAtEnd m live.file (write_orders m.volume live.file offset bytes)
+    → IsUntroubled m live.file (write_orders m.volume live.file offset bytes) → ShowsHeld m live.file
     → (write_call m h offset bytes).reply ≡ Err refusal → IsCheckedOrLimit (write_refusal m h offset (length bytes)) refusal
 
 -- a truncation is refused by its checks, or for a limit, whatever the file shows

@@ -1,5 +1,5 @@
 // Laws of failed commands, and of calls that nothing stands against, each the contract of a function that does
-// nothing.
+// nothing but look at a volume.
 ghost use Rattle.zn_volume.specs.RecoveryLaws.{HandlesAlike, RecoveryOfAnswered, ReportLeaves, FaultLeaves, RefusalLeaves};
 ghost use Rattle.zn_volume.specs.Untroubled.{LiesOnDevice, ReadAnswers, WriteAnswers, TruncateAnswers, SyncAnswers, OpenAnswers, CloseAnswers};
 ghost use Rattle.zn_volume.specs.VolumeState.{mounted_in};
