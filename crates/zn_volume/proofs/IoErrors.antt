@@ -52,7 +52,7 @@ use Rattle.zn_volume.specs.IoErrors.{HasBadZone, HoldsOther, HasIoCause, IoError
 bad_zone : (t : Truth) (file : FileZones) (i : ℕ) (cond : Cond) → i < file.zones → (zone_at t (file.first + i)).cond ≡ cond → is_good cond ≡ false → HasBadZone t file
 bad_zone t file i cond inside is bad = record { zone = i; inside = inside; bad = ap is_good is ∙ bad }
 
-first_bad : (t : Truth) (file : FileZones) (cond : Cond) → 0 < file.zones → (zone_at t file.first).cond ≡ cond → is_good cond ≡ false → HasBadZone t file
+pub first_bad : (t : Truth) (file : FileZones) (cond : Cond) → 0 < file.zones → (zone_at t file.first).cond ≡ cond → is_good cond ≡ false → HasBadZone t file
 first_bad t file cond some is bad =
     let e : file.first ≡ file.first + 0 = omega arith in
     bad_zone t file 0 cond some (subst (λ (z : ℕ). (zone_at t z).cond ≡ cond) e is) bad
@@ -108,11 +108,11 @@ reads_before a w before given after is ok = reads_leave a w (zone_from a) (zone_
 -- ---- writes
 
 -- an area of the file's blocks
-abbrev lain : Shape → FileZones → ℕ → ℕ → Area
+abbrev pub lain : Shape → FileZones → ℕ → ℕ → Area
 lain shape file from blocks = record { first = file.first; room = zone_room_of shape file; from = from; blocks = blocks }
 
 -- an order of a write names a zone of the file
-write_bad : (w : World) (file : FileZones) (from blocks : ℕ) (bytes : List ℕ) (error : DevError) (cond : Cond) → zone_to (lain (shape_of w) file from blocks) ≤ file.zones → is_good cond ≡ false
+pub write_bad : (w : World) (file : FileZones) (from blocks : ℕ) (bytes : List ℕ) (error : DevError) (cond : Cond) → zone_to (lain (shape_of w) file from blocks) ≤ file.zones → is_good cond ≡ false
     → ((z at : ℕ) (part : List ℕ) → HasNamedCondition error (WriteAt z at part) w.truth → (zone_at w.truth z).cond ≡ cond)
     → FailsAt w (writes (lain (shape_of w) file from blocks) bytes) error → HasBadZone w.truth file
 write_bad w file from blocks bytes error cond within bad named fails =
@@ -123,7 +123,7 @@ write_bad w file from blocks bytes error cond within bad named fails =
     (named (piece a at.index).zone (piece a at.index).at _ (subst (λ (o : Order). HasNamedCondition error o w.truth) at.is fails.condition)) bad
 
 -- a write that is refused as unaligned names the one zone of a sequential file
-write_unaligned : (w : World) (file : FileZones) (shown : Shown) (from blocks : ℕ) (bytes : List ℕ) → IsFile (geometry_of w) file → (file.seq ≡ true → file.zones ≡ 1)
+pub write_unaligned : (w : World) (file : FileZones) (shown : Shown) (from blocks : ℕ) (bytes : List ℕ) → IsFile (geometry_of w) file → (file.seq ≡ true → file.zones ≡ 1)
     → zone_to (lain (shape_of w) file from blocks) ≤ file.zones → (file.seq ≡ true → shown.size ≡ 4096 * from)
     → FailsAt w (writes (lain (shape_of w) file from blocks) bytes) Unaligned → HoldsOther w.truth file shown
 write_unaligned w file shown from blocks bytes is single within size fails =
@@ -173,7 +173,7 @@ write_cause _ file shown from blocks bytes old new is single within size h io = 
 
 -- ---- reads
 
-read_bad : (w : World) (file : FileZones) (from blocks : ℕ) (error : DevError) (cond : Cond) → zone_to (lain (shape_of w) file from blocks) ≤ file.zones → is_good cond ≡ false
+pub read_bad : (w : World) (file : FileZones) (from blocks : ℕ) (error : DevError) (cond : Cond) → zone_to (lain (shape_of w) file from blocks) ≤ file.zones → is_good cond ≡ false
     → ((z at n : ℕ) → HasNamedCondition error (ReadAt z at n) w.truth → (zone_at w.truth z).cond ≡ cond)
     → FailsAt w (reads (lain (shape_of w) file from blocks)) error → HasBadZone w.truth file
 read_bad w file from blocks error cond within bad named fails =
@@ -204,7 +204,7 @@ conventional_bad w file i end sound is conventional inside short fits =
     ] refl
 
 -- a read past what the zone holds
-read_beyond : (w : World) (file : FileZones) (shown : Shown) (from blocks : ℕ) → IsSound w.truth → IsFile (geometry_of w) file → (file.seq ≡ true → file.zones ≡ 1)
+pub read_beyond : (w : World) (file : FileZones) (shown : Shown) (from blocks : ℕ) → IsSound w.truth → IsFile (geometry_of w) file → (file.seq ≡ true → file.zones ≡ 1)
     → zone_to (lain (shape_of w) file from blocks) ≤ file.zones → ((i : ℕ) → zone_from (lain (shape_of w) file from blocks) ≤ i → i < zone_to (lain (shape_of w) file from blocks) → Touched (lain (shape_of w) file from blocks) i)
     → ((k : ℕ) → k < from + blocks → 4096 * k < shown.size)
     → FailsAt w (reads (lain (shape_of w) file from blocks)) BeyondWp → HasBadZone w.truth file ⊎ HoldsOther w.truth file shown
@@ -255,9 +255,9 @@ read_cause _ file shown from blocks old new sound is single within touched size 
 -- ---- zone commands
 
 -- the order manages this zone
-record Managing (z : ℕ) (order : Order) : Type 0 where
-  op : ZoneOp
-  is : order ≡ Manage z op
+pub record Managing (z : ℕ) (order : Order) : Type 0 where
+  pub op : ZoneOp
+  pub is : order ≡ Manage z op
 
 -- an open or a close of a file's zone that fails
 pub manage_cause : (error : DevError) (op : ZoneOp) (file : FileZones) (shown : Shown) (old new : DeviceState) → IsFile (geometry_of old.world) file
@@ -290,7 +290,7 @@ truncate_manages file shown size = by_size (size == 0) shown.held_open
     by_size false true = refl
     by_size false false = refl
 
-truncate_order : (w : World) (file : FileZones) (shown : Shown) (size : ℕ) (error : DevError) (fails : FailsAt w (truncate_orders file shown size) error) → Managing file.first fails.order
+pub truncate_order : (w : World) (file : FileZones) (shown : Shown) (size : ℕ) (error : DevError) (fails : FailsAt w (truncate_orders file shown size) error) → Managing file.first fails.order
 truncate_order w file shown size error fails = all_manage file.first (truncate_ops shown size) fails.before fails.order fails.after (truncate_manages file shown size ∙ fails.parts)
 
 -- ---- calls

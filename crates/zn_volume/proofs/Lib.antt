@@ -15,3 +15,10 @@ pub mod MountAnswers
 pub mod Zone0
 pub mod MountCauses
 pub mod Mounted
+pub mod HandlesAlike
+pub mod Recovering
+pub mod Leaving
+pub mod Unstruck
+pub mod Untroubled
+pub mod Passing
+pub mod Answering

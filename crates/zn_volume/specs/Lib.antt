@@ -7,3 +7,5 @@ pub mod Mounts
 pub mod Paths
 pub mod Refusals
 pub mod IoErrors
+pub mod RecoveryLaws
+pub mod Untroubled

@@ -3,6 +3,7 @@
 
 mod commands;
 mod injecting;
+pub mod laws;
 mod looking;
 mod mounting;
 mod opening;
