@@ -12,11 +12,11 @@ use Rattle.zn_base.specs.Runs.{Run, runs_text}
 use Rattle.zn_lines.specs.declared.words.Change.{Change}
 use Rattle.zn_lines.specs.declared.words.Change.TheVariants.{Create, Remove, Rename, Chmod, Chown}
 use Rattle.zn_lines.specs.declared.words.Verb.{Verb}
-use Rattle.zn_lines.specs.declared.words.Verb.TheVariants.{Mkfs as Formatting, Mount as Mounting, Umount as Unmounting, Open, Close, Size, Read, Write, Stat, List as Listing, Create as Creating, Remove as Removing, Rename as Renaming, Chmod as ChangingMode, Chown as ChangingOwner}
-use Rattle.zn_lines.specs.Lines.{FormatWords, FormatItem, plain_format, items_of, Line, Mkfs, Mount, Umount, OpenFile, CloseFile, SizeOf, ReadFrom, WriteTo, StatOf, ListOf, Changes}
+use Rattle.zn_lines.specs.declared.words.Verb.TheVariants.{Mkfs as Formatting, Mount as Mounting, Umount as Unmounting, Open, Close, Size, Read, Write, Truncate, Sync, Stat, List as Listing, Attr, Create as Creating, Remove as Removing, Rename as Renaming, Chmod as ChangingMode, Chown as ChangingOwner}
+use Rattle.zn_lines.specs.Lines.{FormatWords, FormatItem, plain_format, items_of, Line, Mkfs, Mount, Umount, OpenFile, CloseFile, SizeOf, ReadFrom, WriteTo, TruncateTo, SyncFile, StatOf, ListOf, Attributes, Changes}
 use Rattle.zn_base.specs.Decimals.{number_in}
 use Rattle.zn_lines.specs.Words.{Left, ◌>>=◌, optional, no_more}
-use Rattle.zn_lines.specs.Grammar.{last_offset, last_u32, path_of, items_on, uid_key, gid_key, user_after, who_named, mkfs_line, mount_line, umount_line, open_line, close_line, size_line, read_line, write_line, stat_line, list_line, path_change, rename_line, chmod_line, chown_line, line_with, verb_name, mode_name}
+use Rattle.zn_lines.specs.Grammar.{last_offset, last_u32, path_of, items_on, uid_key, gid_key, user_after, who_named, mkfs_line, mount_line, umount_line, open_line, close_line, size_line, read_line, write_line, truncate_line, sync_line, stat_line, list_line, attr_line, path_change, rename_line, chmod_line, chown_line, line_with, verb_name, mode_name}
 use Rattle.zn_lines.specs.LineTexts.{IsPath, item_word, IsItem, user_words, who_words, line_words, IsReadable, IsChange, AreWords}
 use Rattle.zn_lines.proofs.LineWords.{IsWordKind, IsReadFrom, next-written, next-known, optional-written, optional-left_out, optional-known, words_if, no_more-written, no_more-known}
 use Rattle.zn_lines.proofs.WordKinds.{numbers, paths, modes}
@@ -231,6 +231,33 @@ write-known left line is =
     let ended = no_more-known (WriteTo number.x offset.x runs.x) line runs.rest runs.follow in
     subst (SpellsWith Write left) ended.1 (cc (number.words, offset.words, runs.words, ended.0), (number.fits, offset.fits, runs.fits))
 
+-- ---- truncate N NUM
+
+pub truncate-written : (number size : ℕ) → IsReadable (TruncateTo number size) → IsReadFrom (decimal number ∷ decimal size ∷ []) truncate_line (TruncateTo number size)
+unfolding truncate_line IsReadable
+truncate-written number size fits = next-written handles number fits.0 (next-written offsets size fits.1 (no_more-written _))
+
+truncate-known : (left : Left) (line : Line) → truncate_line left ≡ Ok line → SpellsWith Truncate left line
+unfolding truncate_line line_words AreWords IsReadable
+truncate-known left line is =
+    let number = next-known handles left _ line is in
+    let size = next-known offsets number.rest _ line number.follow in
+    let ended = no_more-known (TruncateTo number.x size.x) line size.rest size.follow in
+    subst (SpellsWith Truncate left) ended.1 (cc (number.words, size.words, ended.0), (number.fits, size.fits))
+
+-- ---- sync N
+
+pub sync-written : (number : ℕ) → number ≤ LAST_NUMBER → IsReadFrom (decimal number ∷ []) sync_line (SyncFile number)
+unfolding sync_line
+sync-written number fits = next-written handles number fits (no_more-written _)
+
+sync-known : (left : Left) (line : Line) → sync_line left ≡ Ok line → SpellsWith Sync left line
+unfolding sync_line line_words AreWords IsReadable
+sync-known left line is =
+    let number = next-known handles left _ line is in
+    let ended = no_more-known (SyncFile number.x) line number.rest number.follow in
+    subst (SpellsWith Sync left) ended.1 (cc (number.words, ended.0), number.fits)
+
 -- ---- stat PATH
 
 pub stat-written : (path : List ℕ) → IsPath path → IsReadFrom (path ∷ []) stat_line (StatOf path)
@@ -256,6 +283,18 @@ list-known left line is =
     let path = next-known paths left _ line is in
     let ended = no_more-known (ListOf path.x) line path.rest path.follow in
     subst (SpellsWith Listing left) ended.1 (cc (path.words, ended.0), path.fits)
+
+-- ---- attr
+
+pub attr-written : IsReadFrom [] attr_line Attributes
+unfolding attr_line
+attr-written = no_more-written _
+
+attr-known : (left : Left) (line : Line) → attr_line left ≡ Ok line → SpellsWith Attr left line
+unfolding attr_line line_words AreWords IsReadable
+attr-known left line is =
+    let ended = no_more-known Attributes line left is in
+    subst (SpellsWith Attr left) ended.1 (ap (λ ws. verb_name Attr ∷ ws) ended.0, tt)
 
 -- ---- create PATH, remove PATH
 
@@ -333,8 +372,11 @@ line_with-known Close left line is = close-known left line is
 line_with-known Size left line is = size-known left line is
 line_with-known Read left line is = read-known left line is
 line_with-known Write left line is = write-known left line is
+line_with-known Truncate left line is = truncate-known left line is
+line_with-known Sync left line is = sync-known left line is
 line_with-known Stat left line is = stat-known left line is
 line_with-known Listing left line is = list-known left line is
+line_with-known Attr left line is = attr-known left line is
 line_with-known Creating left line is = create-known left line is
 line_with-known Removing left line is = remove-known left line is
 line_with-known Renaming left line is = rename-known left line is

@@ -9,7 +9,7 @@ use Rattle.std.proofs.lemmas.Option.{same_Some, none-some}
 use Rattle.zn_model.specs.declared.handles.Mode.{Mode}
 use Rattle.zn_base.specs.Decimals.{number_in}
 use Rattle.zn_lines.specs.declared.words.Verb.{Verb}
-use Rattle.zn_lines.specs.declared.words.Verb.TheVariants.{Mkfs as Formatting, Mount as Mounting, Umount as Unmounting, Open, Close, Size, Read, Write, Stat, List as Listing, Create as Creating, Remove as Removing, Rename as Renaming, Chmod as ChangingMode, Chown as ChangingOwner}
+use Rattle.zn_lines.specs.declared.words.Verb.TheVariants.{Mkfs as Formatting, Mount as Mounting, Umount as Unmounting, Open, Close, Size, Read, Write, Truncate, Sync, Stat, List as Listing, Attr, Create as Creating, Remove as Removing, Rename as Renaming, Chmod as ChangingMode, Chown as ChangingOwner}
 use Rattle.zn_lines.specs.Grammar.{is_printable, path_of, mode_in, verb_of, verb_name, mode_name}
 use Rattle.zn_lines.specs.LineTexts.{IsMode, IsPath}
 use Rattle.zn_lines.proofs.Separated.{decimal-lacks, lacks, passing-lack}
@@ -104,8 +104,11 @@ verb-written Close = refl
 verb-written Size = refl
 verb-written Read = refl
 verb-written Write = refl
+verb-written Truncate = refl
+verb-written Sync = refl
 verb-written Stat = refl
 verb-written Listing = refl
+verb-written Attr = refl
 verb-written Creating = refl
 verb-written Removing = refl
 verb-written Renaming = refl
@@ -121,8 +124,11 @@ verb-lacks Close = refl
 verb-lacks Size = refl
 verb-lacks Read = refl
 verb-lacks Write = refl
+verb-lacks Truncate = refl
+verb-lacks Sync = refl
 verb-lacks Stat = refl
 verb-lacks Listing = refl
+verb-lacks Attr = refl
 verb-lacks Creating = refl
 verb-lacks Removing = refl
 verb-lacks Renaming = refl
@@ -141,13 +147,16 @@ verb-known word verb is =
     chosen P word _ Size verb _ is (λ e. e) (λ is.
     chosen P word _ Read verb _ is (λ e. e) (λ is.
     chosen P word _ Write verb _ is (λ e. e) (λ is.
+    chosen P word _ Truncate verb _ is (λ e. e) (λ is.
+    chosen P word _ Sync verb _ is (λ e. e) (λ is.
     chosen P word _ Stat verb _ is (λ e. e) (λ is.
     chosen P word _ Listing verb _ is (λ e. e) (λ is.
+    chosen P word _ Attr verb _ is (λ e. e) (λ is.
     chosen P word _ Creating verb _ is (λ e. e) (λ is.
     chosen P word _ Removing verb _ is (λ e. e) (λ is.
     chosen P word _ Renaming verb _ is (λ e. e) (λ is.
     chosen P word _ ChangingMode verb _ is (λ e. e) (λ is.
-    chosen P word _ ChangingOwner verb _ is (λ e. e) (λ is. absurd (none-some verb is))))))))))))))))
+    chosen P word _ ChangingOwner verb _ is (λ e. e) (λ is. absurd (none-some verb is)))))))))))))))))))
 
 pub verbs : IsWordKind verb_of verb_name (λ verb. Unit {0})
 verbs = record {

@@ -1,8 +1,8 @@
 -- The lines of the grammar: each form is a list of words. (own)
 --
--- So far the lines that format, mount and unmount are read, those that open, close, read, write and look at files,
--- and the changes that are never allowed. The other lines have no form yet: they are refused, at the column of the
--- word that does not fit so far.
+-- So far the lines that format, mount and unmount are read, those that open, close, read, write, truncate, sync and
+-- look at files, the one that tells the volume's attributes, and the changes that are never allowed. The other lines
+-- have no form yet: they are refused, at the column of the word that does not fit so far.
 use Rattle.std.specs.Prelude.{ℕ, ◌+◌, ◌-◌, ◌*◌, Bool, true, ◌&&◌, ◌||◌, ◌==◌, List, [], ◌∷◌, length, take, drop, Option, Some, None, is_some, unwrap_or, option_and_then, Result, Ok, Err, codes, nat_le, if◌then◌else◌}
 use Rattle.std.specs.List.{find, list_all, slice_split}
 use Rattle.std.specs.Option.{option_map, option_or}
@@ -18,13 +18,13 @@ use Rattle.zn_model.specs.Access.{reads, writes}
 use Rattle.zn_lines.specs.declared.words.Change.{Change}
 use Rattle.zn_lines.specs.declared.words.Change.TheVariants.{Create, Remove, Rename, Chmod, Chown}
 use Rattle.zn_lines.specs.declared.words.Verb.{Verb}
-use Rattle.zn_lines.specs.declared.words.Verb.TheVariants.{Mkfs as Formatting, Mount as Mounting, Umount as Unmounting, Open, Close, Size, Read, Write, Stat, List as Listing, Create as Creating, Remove as Removing, Rename as Renaming, Chmod as ChangingMode, Chown as ChangingOwner}
-use Rattle.zn_lines.specs.Lines.{FormatWords, FormatItem, Force, Label, Uuid, Features, plain_format, Line, Mkfs, Mount, Umount, OpenFile, CloseFile, SizeOf, ReadFrom, WriteTo, StatOf, ListOf, Changes}
+use Rattle.zn_lines.specs.declared.words.Verb.TheVariants.{Mkfs as Formatting, Mount as Mounting, Umount as Unmounting, Open, Close, Size, Read, Write, Truncate, Sync, Stat, List as Listing, Attr, Create as Creating, Remove as Removing, Rename as Renaming, Chmod as ChangingMode, Chown as ChangingOwner}
+use Rattle.zn_lines.specs.Lines.{FormatWords, FormatItem, Force, Label, Uuid, Features, plain_format, Line, Mkfs, Mount, Umount, OpenFile, CloseFile, SizeOf, ReadFrom, WriteTo, TruncateTo, SyncFile, StatOf, ListOf, Attributes, Changes}
 use Rattle.zn_lines.specs.Words.{Left, ◌>>=◌, next, optional, no_more, words_of}
 
 -- ---- limits
 
--- the greatest offset: the greatest number of 64 bits
+-- the greatest offset, and the greatest size: the greatest number of 64 bits
 abbrev pub last_offset : ℕ
 last_offset = 18446744073709551615
 
@@ -195,8 +195,11 @@ verb_name Close = codes "close"
 verb_name Size = codes "size"
 verb_name Read = codes "read"
 verb_name Write = codes "write"
+verb_name Truncate = codes "truncate"
+verb_name Sync = codes "sync"
 verb_name Stat = codes "stat"
 verb_name Listing = codes "list"
+verb_name Attr = codes "attr"
 verb_name Creating = codes "create"
 verb_name Removing = codes "remove"
 verb_name Renaming = codes "rename"
@@ -206,7 +209,7 @@ verb_name ChangingOwner = codes "chown"
 -- all verbs so far
 abbrev pub all_verbs : List Verb
 all_verbs =
-    Formatting ∷ Mounting ∷ Unmounting ∷ Open ∷ Close ∷ Size ∷ Read ∷ Write ∷ Stat ∷ Listing
+    Formatting ∷ Mounting ∷ Unmounting ∷ Open ∷ Close ∷ Size ∷ Read ∷ Write ∷ Truncate ∷ Sync ∷ Stat ∷ Listing ∷ Attr
     ∷ Creating ∷ Removing ∷ Renaming ∷ ChangingMode ∷ ChangingOwner ∷ []
 
 -- each verb by its word; any other word is none
@@ -267,6 +270,19 @@ write_line left = do
   runs ← next data_of offset.1
   no_more (WriteTo number.0 offset.0 runs.0) runs.1
 
+-- truncate N NUM
+unfoldable pub truncate_line : Left → Result Line ℕ
+truncate_line left = do
+  number ← next (number_in LAST_NUMBER) left
+  size ← next (number_in last_offset) number.1
+  no_more (TruncateTo number.0 size.0) size.1
+
+-- sync N
+unfoldable pub sync_line : Left → Result Line ℕ
+sync_line left = do
+  number ← next (number_in LAST_NUMBER) left
+  no_more (SyncFile number.0) number.1
+
 -- stat PATH
 unfoldable pub stat_line : Left → Result Line ℕ
 stat_line left = do
@@ -278,6 +294,10 @@ unfoldable pub list_line : Left → Result Line ℕ
 list_line left = do
   path ← next path_of left
   no_more (ListOf path.0) path.1
+
+-- attr
+unfoldable pub attr_line : Left → Result Line ℕ
+attr_line left = no_more Attributes left
 
 -- create PATH, remove PATH
 unfoldable pub path_change : Change → Left → Result Line ℕ
@@ -317,8 +337,11 @@ line_with Close left = close_line left
 line_with Size left = size_line left
 line_with Read left = read_line left
 line_with Write left = write_line left
+line_with Truncate left = truncate_line left
+line_with Sync left = sync_line left
 line_with Stat left = stat_line left
 line_with Listing left = list_line left
+line_with Attr left = attr_line left
 line_with Creating left = path_change Create left
 line_with Removing left = path_change Remove left
 line_with Renaming left = rename_line left

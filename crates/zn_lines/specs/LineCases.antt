@@ -2,7 +2,7 @@
 use Rattle.std.specs.Prelude.{◌≡◌, true, [], ◌∷◌, Some, None, Ok, Err, codes}
 use Rattle.zn_model.specs.declared.limits.TheConstants.{MOST_BYTES}
 use Rattle.zn_lines.specs.declared.words.Change.TheVariants.{Create, Rename, Chmod, Chown}
-use Rattle.zn_lines.specs.Lines.{FormatWords, plain_format, Line, Mkfs, Mount, Umount, OpenFile, CloseFile, SizeOf, ReadFrom, WriteTo, StatOf, ListOf, Changes}
+use Rattle.zn_lines.specs.Lines.{FormatWords, plain_format, Line, Mkfs, Mount, Umount, OpenFile, CloseFile, SizeOf, ReadFrom, WriteTo, TruncateTo, SyncFile, StatOf, ListOf, Attributes, Changes}
 use Rattle.zn_base.specs.Decimals.{number_in}
 use Rattle.zn_lines.specs.Grammar.{last_offset, last_u32, who_named, root, line_of, reading_of}
 use Rattle.zn_lines.specs.LineTexts.{line_text}
@@ -42,6 +42,10 @@ write_one = WriteTo 0 0 (record { byte = 0x61; count = 4096 } ∷ [])
 abbrev pub write_two : Line
 write_two = WriteTo 0 4096 (record { byte = 0x0a; count = 0 } ∷ record { byte = 0xff; count = 1 } ∷ [])
 
+-- the greatest handle number and the greatest size
+abbrev pub truncate_last : Line
+truncate_last = TruncateTo 2047 last_offset
+
 -- lines that are read
 pub record LinesRead : Type 0 where
   pub opening : line_of (codes "open 0 seq/0 rw") ≡ Ok open_both
@@ -51,8 +55,12 @@ pub record LinesRead : Type 0 where
   pub read_last : line_of (codes "read 2047 18446744073709551615 1048576") ≡ Ok read_last
   pub write_one : line_of (codes "write 0 0 61*4096") ≡ Ok write_one
   pub write_two : line_of (codes "write 0 4096 0a*0+ff*1") ≡ Ok write_two
+  pub truncate : line_of (codes "truncate 0 4096") ≡ Ok (TruncateTo 0 4096)
+  pub truncate_last : line_of (codes "truncate 2047 18446744073709551615") ≡ Ok truncate_last
+  pub sync : line_of (codes "sync 7") ≡ Ok (SyncFile 7)
   pub stat : line_of (codes "stat /") ≡ Ok (StatOf (codes "/"))
   pub listing : line_of (codes "list #") ≡ Ok (ListOf (codes "#"))
+  pub attr : line_of (codes "attr") ≡ Ok Attributes
   pub create : line_of (codes "create cnv/9") ≡ Ok (Changes Create)
   pub rename : line_of (codes "rename cnv/0 cnv/1") ≡ Ok (Changes Rename)
   pub chmod : line_of (codes "chmod cnv/0 438") ≡ Ok (Changes Chmod)
@@ -87,6 +95,10 @@ pub record LinesWritten : Type 0 where
   pub read_last : line_text read_last ≡ codes "read 2047 18446744073709551615 1048576"
   pub write_one : line_text write_one ≡ codes "write 0 0 61*4096"
   pub write_two : line_text write_two ≡ codes "write 0 4096 0a*0+ff*1"
+  pub truncate : line_text (TruncateTo 0 0) ≡ codes "truncate 0 0"
+  pub truncate_last : line_text truncate_last ≡ codes "truncate 2047 18446744073709551615"
+  pub sync : line_text (SyncFile 2047) ≡ codes "sync 2047"
+  pub attr : line_text Attributes ≡ codes "attr"
 
 -- ---- lines that are refused, each at the column of the first word that does not fit
 
@@ -96,6 +108,7 @@ pub record VerbsRefused : Type 0 where
   pub other : line_of (codes "sizes 0") ≡ Err 1
   pub capital : line_of (codes "Size 0") ≡ Err 1
   pub blank_before : line_of (codes " size 0") ≡ Err 1
+  pub longer_verb : line_of (codes "attributes") ≡ Err 1
 
 -- words behind a verb that are missing, one too many, or not of their form
 pub record WordsRefused : Type 0 where
@@ -108,6 +121,15 @@ pub record WordsRefused : Type 0 where
   pub missing_offset : line_of (codes "read 0") ≡ Err 7
   pub offset_too_large : line_of (codes "read 0 18446744073709551616 0") ≡ Err 8
   pub length_too_large : line_of (codes "read 0 0 1048577") ≡ Err 10
+  pub missing_size : line_of (codes "truncate 7") ≡ Err 11
+  pub size_too_large : line_of (codes "truncate 7 18446744073709551616") ≡ Err 12
+  pub size_with_a_sign : line_of (codes "truncate 7 +1") ≡ Err 12
+  pub word_behind_size : line_of (codes "truncate 7 0 0") ≡ Err 14
+  pub missing_synced_handle : line_of (codes "sync") ≡ Err 5
+  pub synced_handle_too_large : line_of (codes "sync 2048") ≡ Err 6
+  pub word_behind_sync : line_of (codes "sync 7 8") ≡ Err 8
+  pub word_behind_attr : line_of (codes "attr 0") ≡ Err 6
+  pub blank_behind_attr : line_of (codes "attr ") ≡ Err 6
   pub mode_the_other_way : line_of (codes "open 0 seq/0 wr") ≡ Err 14
   pub path_not_printable : line_of (codes "stat a\tb") ≡ Err 6
   pub user_too_large : line_of (codes "chown cnv/0 4294967296 0") ≡ Err 13

@@ -11,8 +11,8 @@ use Rattle.zn_base.specs.Runs.{Run, runs_text}
 use Rattle.zn_base.specs.Texts.{◌⧺◌}
 use Rattle.zn_lines.specs.declared.words.Change.{Change}
 use Rattle.zn_lines.specs.declared.words.Change.TheVariants.{Create, Remove, Rename, Chmod, Chown}
-use Rattle.zn_lines.specs.declared.words.Verb.TheVariants.{Mkfs as Formatting, Mount as Mounting, Umount as Unmounting, Open, Close, Size, Read, Write, Stat, List as Listing, Create as Creating, Remove as Removing, Rename as Renaming, Chmod as ChangingMode, Chown as ChangingOwner}
-use Rattle.zn_lines.specs.Lines.{bytes_of, FormatItem, Force, Label, Uuid, Features, items_of, Line, Mkfs, Mount, Umount, OpenFile, CloseFile, SizeOf, ReadFrom, WriteTo, StatOf, ListOf, Changes}
+use Rattle.zn_lines.specs.declared.words.Verb.TheVariants.{Mkfs as Formatting, Mount as Mounting, Umount as Unmounting, Open, Close, Size, Read, Write, Truncate, Sync, Stat, List as Listing, Attr, Create as Creating, Remove as Removing, Rename as Renaming, Chmod as ChangingMode, Chown as ChangingOwner}
+use Rattle.zn_lines.specs.Lines.{bytes_of, FormatItem, Force, Label, Uuid, Features, items_of, Line, Mkfs, Mount, Umount, OpenFile, CloseFile, SizeOf, ReadFrom, WriteTo, TruncateTo, SyncFile, StatOf, ListOf, Attributes, Changes}
 use Rattle.zn_lines.specs.Grammar.{last_offset, last_u32, mode_name, uid_key, gid_key, who_named, force_word, label_key, uuid_key, features_key, verb_name}
 
 -- ---- words
@@ -72,8 +72,11 @@ line_words (CloseFile number) = verb_name Close ∷ decimal number ∷ []
 line_words (SizeOf number) = verb_name Size ∷ decimal number ∷ []
 line_words (ReadFrom number offset len) = verb_name Read ∷ decimal number ∷ decimal offset ∷ decimal len ∷ []
 line_words (WriteTo number offset runs) = verb_name Write ∷ decimal number ∷ decimal offset ∷ runs_text runs ∷ []
+line_words (TruncateTo number size) = verb_name Truncate ∷ decimal number ∷ decimal size ∷ []
+line_words (SyncFile number) = verb_name Sync ∷ decimal number ∷ []
 line_words (StatOf path) = verb_name Stat ∷ path ∷ []
 line_words (ListOf path) = verb_name Listing ∷ path ∷ []
+line_words Attributes = verb_name Attr ∷ []
 line_words _ = []
 
 -- What such a line names is within the limits. (So far a script can have no others that keep their words.)
@@ -87,8 +90,11 @@ IsReadable (CloseFile number) = number ≤ LAST_NUMBER
 IsReadable (SizeOf number) = number ≤ LAST_NUMBER
 IsReadable (ReadFrom number offset len) = (number ≤ LAST_NUMBER) × (offset ≤ last_offset) × (len ≤ MOST_BYTES)
 IsReadable (WriteTo number offset runs) = (number ≤ LAST_NUMBER) × (offset ≤ last_offset) × IsData runs
+IsReadable (TruncateTo number size) = (number ≤ LAST_NUMBER) × (size ≤ last_offset)
+IsReadable (SyncFile number) = number ≤ LAST_NUMBER
 IsReadable (StatOf path) = IsPath path
 IsReadable (ListOf path) = IsPath path
+IsReadable Attributes = Unit {0}
 IsReadable _ = ⊥
 
 -- The words of a change, of which the line keeps only the kind, since none is allowed.

@@ -8,7 +8,7 @@ use Rattle.zn_lines.specs.Grammar.{part_of, part_then, data_of}
 use Rattle.zn_script.specs.Items.{IsShort}
 use Rattle.zn_script.specs.declared.data.Part.{Part}
 use Rattle.zn_script.specs.declared.Line.{Line}
-use Rattle.zn_script.specs.declared.Line.TheVariants.{Mkfs, Mount, Umount, Open, Close, Size, Read, Write, Stat, List as Listing, Change}
+use Rattle.zn_script.specs.declared.Line.TheVariants.{Mkfs, Mount, Umount, Open, Close, Size, Read, Write, Truncate, Sync, Stat, List as Listing, Attr, Change}
 
 -- the byte of the part, as often as the part counts
 abbrev pub run_meant : Part → Run
@@ -49,6 +49,9 @@ CallFits (Close number) = number ≤ LAST_NUMBER
 CallFits (Size number) = number ≤ LAST_NUMBER
 CallFits (Read number offset len) = (number ≤ LAST_NUMBER) × (len ≤ MOST_BYTES)
 CallFits (Write number offset word) = (number ≤ LAST_NUMBER) × IsSome (data_of word.now)
+CallFits (Truncate number size) = number ≤ LAST_NUMBER
+CallFits (Sync number) = number ≤ LAST_NUMBER
 CallFits (Stat path) = Unit {0}
 CallFits (Listing path) = Unit {0}
+CallFits Attr = Unit {0}
 CallFits (Change change) = Unit {0}

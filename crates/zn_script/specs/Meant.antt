@@ -7,7 +7,7 @@ use Rattle.std.specs.Option.{option_copied}
 use Rattle.zn_script.specs.Data.{CallFits}
 use Rattle.zn_script.specs.Items.{format_meant}
 use Rattle.zn_script.specs.declared.Line.{Line}
-use Rattle.zn_script.specs.declared.Line.TheVariants.{Mkfs as MkfsLine, Mount as MountLine, Umount as UmountLine, Open as OpenLine, Close as CloseLine, Size as SizeLine, Read as ReadLine, Write as WriteLine, Stat as StatLine, List as ListLine, Change as ChangeLine}
+use Rattle.zn_script.specs.declared.Line.TheVariants.{Mkfs as MkfsLine, Mount as MountLine, Umount as UmountLine, Open as OpenLine, Close as CloseLine, Size as SizeLine, Read as ReadLine, Write as WriteLine, Truncate as TruncateLine, Sync as SyncLine, Stat as StatLine, List as ListLine, Attr as AttrLine, Change as ChangeLine}
 
 -- the runs that a word of data means
 abbrev pub runs_meant : List ℕ → List Run
@@ -23,8 +23,11 @@ line_meant (CloseLine number) = lines.CloseFile number
 line_meant (SizeLine number) = lines.SizeOf number
 line_meant (ReadLine number offset len) = lines.ReadFrom number offset len
 line_meant (WriteLine number offset word) = lines.WriteTo number offset (runs_meant word.now)
+line_meant (TruncateLine number size) = lines.TruncateTo number size
+line_meant (SyncLine number) = lines.SyncFile number
 line_meant (StatLine path) = lines.StatOf path.now
 line_meant (ListLine path) = lines.ListOf path.now
+line_meant AttrLine = lines.Attributes
 line_meant (ChangeLine change) = lines.Changes change
 
 -- a line, or none where it has no reply

@@ -4,7 +4,8 @@ ghost use Rattle.zn_lines.specs.declared.limits.TheConstants.{LINE_LIMIT};
 ghost use Rattle.zn_lines.specs.Words.{no_more};
 ghost use Rattle.zn_lines.specs.Grammar.{mkfs_line, mount_line, umount_line};
 ghost use Rattle.zn_lines.specs.Grammar.{open_line, close_line, size_line, read_line, write_line};
-ghost use Rattle.zn_lines.specs.Grammar.{stat_line, list_line, path_change, rename_line, chmod_line, chown_line};
+ghost use Rattle.zn_lines.specs.Grammar.{truncate_line, sync_line, stat_line, list_line, attr_line};
+ghost use Rattle.zn_lines.specs.Grammar.{path_change, rename_line, chmod_line, chown_line};
 ghost use Rattle.zn_lines.specs.Grammar.{who_named, line_with, line_of, reading_of};
 ghost use Rattle.zn_script.specs.Data.{CallFits};
 ghost use Rattle.zn_script.specs.Gives.{Gives};
@@ -127,6 +128,25 @@ fn write_line(line: &[u8], at: usize) -> Result<Line<'_>, u32>
     no_more(line, at, Line::Write(number, offset, data))
 }
 
+#[tactic(auto, unfolding(zn_lines::specs::Grammar::truncate_line))]
+fn truncate_line(line: &[u8], at: usize) -> Result<Line<'_>, u32>
+    requires { IsPlaceIn line.now at }
+    ensures { GivesLine result (truncate_line (left_at line.now at)) }
+{
+    let (number, at) = small_number_at(line, at, LAST_NUMBER)?;
+    let (size, at) = number_at(line, at, u64::MAX)?;
+    no_more(line, at, Line::Truncate(number, size))
+}
+
+#[tactic(auto, unfolding(zn_lines::specs::Grammar::sync_line))]
+fn sync_line(line: &[u8], at: usize) -> Result<Line<'_>, u32>
+    requires { IsPlaceIn line.now at }
+    ensures { GivesLine result (sync_line (left_at line.now at)) }
+{
+    let (number, at) = small_number_at(line, at, LAST_NUMBER)?;
+    no_more(line, at, Line::Sync(number))
+}
+
 #[tactic(auto, unfolding(zn_lines::specs::Grammar::stat_line))]
 fn stat_line(line: &[u8], at: usize) -> Result<Line<'_>, u32>
     requires { IsPlaceIn line.now at }
@@ -143,6 +163,14 @@ fn list_line(line: &[u8], at: usize) -> Result<Line<'_>, u32>
 {
     let (path, at) = path_at(line, at)?;
     no_more(line, at, Line::List(path))
+}
+
+#[tactic(auto, unfolding(zn_lines::specs::Grammar::attr_line))]
+fn attr_line(line: &[u8], at: usize) -> Result<Line<'_>, u32>
+    requires { IsPlaceIn line.now at }
+    ensures { GivesLine result (attr_line (left_at line.now at)) }
+{
+    no_more(line, at, Line::Attr)
 }
 
 #[tactic(auto, unfolding(zn_lines::specs::Grammar::path_change))]
@@ -199,8 +227,11 @@ fn line_with(verb: Verb, line: &[u8], at: usize) -> Result<Line<'_>, u32>
         Verb::Size => size_line(line, at),
         Verb::Read => read_line(line, at),
         Verb::Write => write_line(line, at),
+        Verb::Truncate => truncate_line(line, at),
+        Verb::Sync => sync_line(line, at),
         Verb::Stat => stat_line(line, at),
         Verb::List => list_line(line, at),
+        Verb::Attr => attr_line(line, at),
         Verb::Create => path_change(line, at, Change::Create),
         Verb::Remove => path_change(line, at, Change::Remove),
         Verb::Rename => rename_line(line, at),

@@ -35,8 +35,12 @@ pub enum Line<'a> {
     Read(u32, u64, u32),
     /// A handle's number, an offset in bytes, and a word of data, which `expand` takes.
     Write(u32, u64, &'a [u8]),
+    /// A handle's number, and a size in bytes.
+    Truncate(u32, u64),
+    Sync(u32),
     Stat(&'a str),
     List(&'a str),
+    Attr,
     Change(Change),
 }
 
@@ -81,6 +85,23 @@ mod tests {
     }
 
     #[test]
+    fn columns_of_truncations_syncs_and_attributes(rt: HostRuntime) {
+        for (line, column) in [
+            ("truncate 0", 11),
+            ("truncate 2048 0", 10),
+            ("truncate 0 18446744073709551616", 12),
+            ("sync 2048", 6),
+            ("sync 0 0", 8),
+            ("attr 0", 6),
+        ] {
+            match parse(line.as_bytes()) {
+                Err(at) => assert_eq!(rt; at, column, "{line}"),
+                Ok(_) => assert!(rt; false, "{line}"),
+            }
+        }
+    }
+
+    #[test]
     fn lines_that_fit(rt: HostRuntime) {
         assert!(rt; matches!(parse(b""), Ok(None)));
         assert!(rt; matches!(parse(b"#x"), Ok(None)));
@@ -88,6 +109,15 @@ mod tests {
         assert!(rt; matches!(parse(b"mount"), Ok(Some(Line::Mount(None)))));
         assert!(rt; matches!(parse(b"mount uid=1"), Ok(Some(Line::Mount(Some("uid=1"))))));
         assert!(rt; matches!(parse(b"read 1 4096 0"), Ok(Some(Line::Read(1, 4096, 0)))));
+        assert!(rt; matches!(parse(b"truncate 7 0"), Ok(Some(Line::Truncate(7, 0)))));
+        assert!(rt;
+            matches!(
+                parse(b"truncate 2047 18446744073709551615"),
+                Ok(Some(Line::Truncate(2047, u64::MAX)))
+            )
+        );
+        assert!(rt; matches!(parse(b"sync 2047"), Ok(Some(Line::Sync(2047)))));
+        assert!(rt; matches!(parse(b"attr"), Ok(Some(Line::Attr))));
         assert!(rt; matches!(parse(b"rename a b"), Ok(Some(Line::Change(Change::Rename)))));
     }
 

@@ -12,7 +12,7 @@ use zn_lines::Verb;
 use zn_model::Mode;
 
 /// The word of each verb.
-const VERBS: [(&str, Verb); 15] = [
+const VERBS: [(&str, Verb); 18] = [
     ("mkfs", Verb::Mkfs),
     ("mount", Verb::Mount),
     ("umount", Verb::Umount),
@@ -21,8 +21,11 @@ const VERBS: [(&str, Verb); 15] = [
     ("size", Verb::Size),
     ("read", Verb::Read),
     ("write", Verb::Write),
+    ("truncate", Verb::Truncate),
+    ("sync", Verb::Sync),
     ("stat", Verb::Stat),
     ("list", Verb::List),
+    ("attr", Verb::Attr),
     ("create", Verb::Create),
     ("remove", Verb::Remove),
     ("rename", Verb::Rename),

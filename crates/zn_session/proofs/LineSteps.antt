@@ -4,19 +4,20 @@ use Rattle.std.specs.Prelude.{IsSome, codes, if◌then◌else◌}
 use Rattle.zn_model.specs.declared.answers.Refusal.TheVariants.{PowerLost}
 use Rattle.zn_model.specs.declared.handles.Handle.{Handle}
 use Rattle.zn_model.specs.Volume.{Live, Mounted, live_at}
-use Rattle.zn_model.specs.CallAnswers.{Answer, with_power, refused}
+use Rattle.zn_model.specs.CallAnswers.{Answer, with_power, refused, answered}
 use Rattle.zn_model.specs.Keys.{unkeyed, unkeyed_handle, unkeyed_answer}
 use Rattle.zn_lines.specs.declared.words.Change.{Change}
-use Rattle.zn_lines.specs.Lines.{CloseFile, SizeOf, ReadFrom, WriteTo, StatOf, ListOf, Changes, bytes_of}
+use Rattle.zn_lines.specs.Lines.{CloseFile, SizeOf, ReadFrom, WriteTo, TruncateTo, SyncFile, StatOf, ListOf, Attributes, Changes, bytes_of}
 use Rattle.zn_base.specs.Runs.{Run}
-use Rattle.zn_model.specs.Looks.{stat_call, stat_by, entries_call, entries_by, change_refusal}
+use Rattle.zn_model.specs.Looks.{stat_call, stat_by, entries_call, entries_by, attributes_of, attr_call, change_refusal}
 use Rattle.zn_model.specs.Reading.{size_call, read_call, size_by}
+use Rattle.zn_model.specs.Truncating.{truncate_call, sync_call}
 use Rattle.zn_model.specs.Writing.{write_call}
-use Rattle.zn_lines.specs.ReplyTexts.{refusal_name, reply_text, number_text, read_text, plain, stat_text, list_text}
+use Rattle.zn_lines.specs.ReplyTexts.{refusal_name, reply_text, number_text, read_text, plain, stat_text, list_text, attr_text}
 use Rattle.zn_lines.specs.Session.{line_now, says, says_error, close_line, tells, handle_then, names_in}
 use Rattle.zn_model.specs.ZoneFiles.{listing_of, file_named}
-use Rattle.zn_model.proofs.KeysCalls.{size_unkeyed, read_unkeyed, write_unkeyed}
-use Rattle.zn_model.proofs.KeysLooks.{stat_unkeyed, entries_unkeyed}
+use Rattle.zn_model.proofs.KeysCalls.{size_unkeyed, read_unkeyed, write_unkeyed, truncate_unkeyed, sync_unkeyed}
+use Rattle.zn_model.proofs.KeysLooks.{stat_unkeyed, entries_unkeyed, attr_unkeyed}
 use Rattle.zn_session.specs.SessionState.{table_of, number_at, IsNumbered}
 use Rattle.zn_session.proofs.Numbers.{on_number, on_free}
 
@@ -50,6 +51,16 @@ pub write_step : (given : List ℕ) (m : Mounted) (numbers : List (Option Handle
 unfolding line_now
 write_step given m numbers n offset runs h is e = let live = live_of (is.live n h e) in call_step plain (λ m' h'. write_call m' h' offset (bytes_of runs)) m numbers n h e (write_unkeyed m h offset (bytes_of runs) live.0 is.once live.1)
 
+pub truncate_step : (given : List ℕ) (m : Mounted) (numbers : List (Option Handle)) (n size : ℕ) (h : Handle) → IsNumbered m numbers → number_at numbers n ≡ Some h
+    → line_now given (table_of m numbers) (TruncateTo n size) ≡ says (reply_text plain refusal_name (truncate_call m h size).reply) (table_of (truncate_call m h size).mounted numbers)
+unfolding line_now
+truncate_step given m numbers n size h is e = let live = live_of (is.live n h e) in call_step plain (λ m' h'. truncate_call m' h' size) m numbers n h e (truncate_unkeyed m h size live.0 is.once live.1)
+
+pub sync_step : (given : List ℕ) (m : Mounted) (numbers : List (Option Handle)) (n : ℕ) (h : Handle) → IsNumbered m numbers → number_at numbers n ≡ Some h
+    → line_now given (table_of m numbers) (SyncFile n) ≡ says (reply_text plain refusal_name (sync_call m h).reply) (table_of (sync_call m h).mounted numbers)
+unfolding line_now
+sync_step given m numbers n h is e = let live = live_of (is.live n h e) in call_step plain sync_call m numbers n h e (sync_unkeyed m h live.0 is.once live.1)
+
 pub stat_step : (given : List ℕ) (m : Mounted) (numbers : List (Option Handle)) (path : List ℕ)
     → line_now given (table_of m numbers) (StatOf path) ≡ says (reply_text (stat_text path) refusal_name (stat_call m path).reply) (table_of (stat_call m path).mounted numbers)
 unfolding line_now
@@ -59,6 +70,11 @@ pub list_step : (given : List ℕ) (m : Mounted) (numbers : List (Option Handle)
     → line_now given (table_of m numbers) (ListOf path) ≡ says (reply_text (λ n. list_text (names_in (listing_of m.volume.inodes.layout path))) refusal_name (entries_call m path).reply) (table_of (entries_call m path).mounted numbers)
 unfolding line_now
 list_step given m numbers path = tells_unkeyed (λ n. list_text (names_in (listing_of m.volume.inodes.layout path))) m numbers (entries_call (unkeyed m) path) (entries_call m path) (entries_unkeyed m path)
+
+pub attr_step : (given : List ℕ) (m : Mounted) (numbers : List (Option Handle))
+    → line_now given (table_of m numbers) Attributes ≡ says (reply_text attr_text refusal_name (attr_call m).reply) (table_of (attr_call m).mounted numbers)
+unfolding line_now
+attr_step given m numbers = tells_unkeyed attr_text m numbers (attr_call (unkeyed m)) (attr_call m) (attr_unkeyed m)
 
 pub change_step : (given : List ℕ) (m : Mounted) (numbers : List (Option Handle)) (change : Change) → line_now given (table_of m numbers) (Changes change) ≡ says_error (refusal_name change_refusal) (table_of m numbers)
 unfolding line_now
@@ -81,6 +97,14 @@ read_free given m numbers n offset len e = on_free m numbers n (λ m' h'. tells 
 pub write_free : (given : List ℕ) (m : Mounted) (numbers : List (Option Handle)) (n offset : ℕ) (runs : List Run) → number_at numbers n ≡ None → line_now given (table_of m numbers) (WriteTo n offset runs) ≡ says_error (codes "bad-handle") (table_of m numbers)
 unfolding line_now
 write_free given m numbers n offset runs e = on_free m numbers n (λ m' h'. tells plain (table_of m numbers) (write_call m' h' offset (bytes_of runs))) e
+
+pub truncate_free : (given : List ℕ) (m : Mounted) (numbers : List (Option Handle)) (n size : ℕ) → number_at numbers n ≡ None → line_now given (table_of m numbers) (TruncateTo n size) ≡ says_error (codes "bad-handle") (table_of m numbers)
+unfolding line_now
+truncate_free given m numbers n size e = on_free m numbers n (λ m' h'. tells plain (table_of m numbers) (truncate_call m' h' size)) e
+
+pub sync_free : (given : List ℕ) (m : Mounted) (numbers : List (Option Handle)) (n : ℕ) → number_at numbers n ≡ None → line_now given (table_of m numbers) (SyncFile n) ≡ says_error (codes "bad-handle") (table_of m numbers)
+unfolding line_now
+sync_free given m numbers n e = on_free m numbers n (λ m' h'. tells plain (table_of m numbers) (sync_call m' h')) e
 
 -- ---- calls that only look
 
@@ -115,3 +139,7 @@ entries_looks m (Some names) = refl
 pub entries_same : (m : Mounted) (path : List ℕ) → (entries_call m path).mounted ≡ m
 unfolding entries_call
 entries_same m path = looks m (entries_by (listing_of m.volume.inodes.layout path) m) (entries_looks m (listing_of m.volume.inodes.layout path))
+
+pub attr_same : (m : Mounted) → (attr_call m).mounted ≡ m
+unfolding attr_call
+attr_same m = looks m (answered (attributes_of m) m) refl

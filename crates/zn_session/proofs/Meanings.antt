@@ -17,7 +17,7 @@ use Rattle.zn_lines.specs.Memory.{takes_itself}
 use Rattle.zn_lines.specs.Table.{Table, no_numbers, handle_of, with_mounted, without_number}
 use Rattle.zn_script.specs.Meant.{line_meant}
 use Rattle.zn_script.specs.declared.Line.{Line}
-use Rattle.zn_script.specs.declared.Line.TheVariants.{Mkfs, Mount, Umount, Open, Close, Size, Read, Write, Stat, List as Listing, Change}
+use Rattle.zn_script.specs.declared.Line.TheVariants.{Mkfs, Mount, Umount, Open, Close, Size, Read, Write, Truncate, Sync, Stat, List as Listing, Attr, Change}
 use Rattle.zn_volume.specs.VolumeState.{VolumeState, mounted_in}
 use Rattle.zn_session.specs.Replies.{text_of, IsWritable}
 use Rattle.zn_session.specs.SessionState.{HeldState, bare_held, mounted_held, table_by, table_of, AreNumbered}
@@ -85,8 +85,11 @@ module _ (entropy : List ℕ) (table : Table) where
   line_but given (Size n) call = volume_but table.volume _ _ (λ m. handle_but (handle_of table n) _ _ (λ h. refl))
   line_but given (Read n offset len) call = volume_but table.volume _ _ (λ m. handle_but (handle_of table n) _ _ (λ h. refl))
   line_but given (Write n offset word) call = volume_but table.volume _ _ (λ m. handle_but (handle_of table n) _ _ (λ h. refl))
+  line_but given (Truncate n size) call = volume_but table.volume _ _ (λ m. handle_but (handle_of table n) _ _ (λ h. refl))
+  line_but given (Sync n) call = volume_but table.volume _ _ (λ m. handle_but (handle_of table n) _ _ (λ h. refl))
   line_but given (Stat path) call = volume_but table.volume _ _ (λ m. refl)
   line_but given (Listing path) call = volume_but table.volume _ _ (λ m. refl)
+  line_but given Attr call = volume_but table.volume _ _ (λ m. refl)
   line_but given (Change change) call = volume_but table.volume _ _ (λ m. refl)
 
 -- ---- calls
@@ -131,8 +134,11 @@ bare_now given entropy (Close n) d numbers call = refl
 bare_now given entropy (Size n) d numbers call = refl
 bare_now given entropy (Read n offset len) d numbers call = refl
 bare_now given entropy (Write n offset word) d numbers call = refl
+bare_now given entropy (Truncate n size) d numbers call = refl
+bare_now given entropy (Sync n) d numbers call = refl
 bare_now given entropy (Stat path) d numbers call = refl
 bare_now given entropy (Listing path) d numbers call = refl
+bare_now given entropy Attr d numbers call = refl
 bare_now given entropy (Change change) d numbers call = refl
 
 -- a call without a volume

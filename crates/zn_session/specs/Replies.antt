@@ -3,12 +3,12 @@ use Rattle.std.specs.Prelude.{ℕ, Bool, true, false, ◌≤◌, List, [], ◌�
 use Rattle.std.specs.Fmt.{decimal}
 use Rattle.zn_model.specs.declared.limits.TheConstants.{MOST_BYTES}
 use Rattle.zn_base.specs.Texts.{◌⧺◌}
-use Rattle.zn_lines.specs.ReplyTexts.{refusal_name, mount_error_name, format_error_name, option_error_name, error_text, ok_text, number_text, read_text, stat_text, list_text}
+use Rattle.zn_lines.specs.ReplyTexts.{refusal_name, mount_error_name, format_error_name, option_error_name, error_text, ok_text, number_text, read_text, stat_text, list_text, attr_text}
 use Rattle.zn_model.specs.ZoneFiles.{names_to}
 use Rattle.zn_session.specs.declared.replies.Reply.{Reply}
 use Rattle.zn_session.specs.declared.replies.Reply.TheVariants.{NotMounted, AlreadyMounted, HandleInUse, BadLabel, BadUuid}
 use Rattle.zn_session.specs.declared.replies.Reply.TheVariants.{Refused, OptionRefused, FormatRefused, MountRefused, Done, Number, Bytes}
-use Rattle.zn_session.specs.declared.replies.Reply.TheVariants.{Told, Directories, Names}
+use Rattle.zn_session.specs.declared.replies.Reply.TheVariants.{Told, Directories, Names, Attributes}
 
 -- the names of the directories that exist
 abbrev pub directory_names : Bool → Bool → List (List ℕ)
@@ -38,6 +38,7 @@ text_of (Bytes n) buffer = read_text (take n buffer)
 text_of (Told path stat) buffer = stat_text path.now stat
 text_of (Directories cnv seq) buffer = list_text (directory_names cnv seq)
 text_of (Names n) buffer = list_text (names_to n)
+text_of (Attributes attr) buffer = attr_text attr
 
 -- the buffer has as many bytes as the reply tells, and these are not too many
 abbrev pub IsWritable : Reply → List ℕ → Type 0

@@ -5,8 +5,8 @@ ghost use Rattle.zn_lines.specs.declared.limits.TheConstants.{LAST_NUMBER};
 ghost use Rattle.zn_model.specs.declared.limits.TheConstants.{MOST_BYTES};
 ghost use Rattle.zn_lines.specs.Grammar.{data_of};
 ghost use Rattle.zn_model.specs.Reading.{read_call};
-ghost use Rattle.zn_lines.specs.Lines.{bytes_of, OpenFile, CloseFile, SizeOf, ReadFrom, WriteTo, StatOf, ListOf};
-ghost use Rattle.zn_lines.specs.Lines.{Changes};
+ghost use Rattle.zn_lines.specs.Lines.{bytes_of, OpenFile, CloseFile, SizeOf, ReadFrom, WriteTo, TruncateTo, SyncFile};
+ghost use Rattle.zn_lines.specs.Lines.{StatOf, ListOf, Attributes, Changes};
 ghost use Rattle.zn_lines.specs.ReplyTexts.{plain, number_text, read_text, list_text};
 ghost use Rattle.zn_lines.specs.Session.{names_in};
 ghost use Rattle.zn_model.specs.ZoneFiles.{listing_of};
@@ -244,6 +244,42 @@ fn write<D: Zoned + Drop>(
     }
 }
 
+/// Truncates the file of a number to a size in bytes.
+fn truncate<D: Zoned + Drop>(
+    volume: &mut Volume<D>,
+    numbers: &[Option<Handle>],
+    number: u32,
+    size: u64,
+) -> Reply<'static>
+    requires number { number ≤ LAST_NUMBER }
+    requires unspoilt { volume.old.device.spoilt ≡ false }
+    requires numbered { IsNumbered (mounted_in volume.old) numbers.now }
+    ensures { (buffer : List ℕ) → Answers (TruncateTo number size) result buffer
+        volume.old volume.new numbers.now numbers.now }
+{
+    match handle_of(numbers, number) {
+        None => Reply::Refused(Refusal::BadHandle),
+        Some(h) => done(volume.truncate(h, size)),
+    }
+}
+
+fn sync<D: Zoned + Drop>(
+    volume: &mut Volume<D>,
+    numbers: &[Option<Handle>],
+    number: u32,
+) -> Reply<'static>
+    requires number { number ≤ LAST_NUMBER }
+    requires unspoilt { volume.old.device.spoilt ≡ false }
+    requires numbered { IsNumbered (mounted_in volume.old) numbers.now }
+    ensures { (buffer : List ℕ) → Answers (SyncFile number) result buffer
+        volume.old volume.new numbers.now numbers.now }
+{
+    match handle_of(numbers, number) {
+        None => Reply::Refused(Refusal::BadHandle),
+        Some(h) => done(volume.sync(h)),
+    }
+}
+
 fn stat<'a, D: Zoned + Drop>(volume: &Volume<D>, path: &'a str) -> Reply<'a>
     requires unspoilt { volume.now.device.spoilt ≡ false }
     ensures { (buffer : List ℕ) (numbers : List (Option Handle)) → IsNumbered (mounted_in volume.now) numbers
@@ -280,6 +316,17 @@ fn list<D: Zoned + Drop>(volume: &Volume<D>, path: &str) -> Reply<'static>
     }
 }
 
+fn attr<D: Zoned + Drop>(volume: &Volume<D>) -> Reply<'static>
+    requires unspoilt { volume.now.device.spoilt ≡ false }
+    ensures { (buffer : List ℕ) (numbers : List (Option Handle)) → IsNumbered (mounted_in volume.now) numbers
+        → Answers Attributes result buffer volume.now volume.now numbers numbers }
+{
+    match volume.attr() {
+        Ok(attr) => Reply::Attributes(attr),
+        Err(refusal) => Reply::Refused(refusal),
+    }
+}
+
 fn change<D: Zoned + Drop>(volume: &Volume<D>, change: Change) -> Reply<'static>
     requires unspoilt { volume.now.device.spoilt ≡ false }
     ensures { (buffer : List ℕ) (numbers : List (Option Handle)) → IsNumbered (mounted_in volume.now) numbers
@@ -311,8 +358,11 @@ pub fn answer<'a, D: Zoned + Drop>(
         Line::Size(number) => size(volume, numbers, number),
         Line::Read(number, offset, len) => read(volume, numbers, number, offset, len, buffer),
         Line::Write(number, offset, word) => write(volume, numbers, number, offset, word, buffer),
+        Line::Truncate(number, size) => truncate(volume, numbers, number, size),
+        Line::Sync(number) => sync(volume, numbers, number),
         Line::Stat(path) => stat(volume, path),
         Line::List(path) => list(volume, path),
+        Line::Attr => attr(volume),
         Line::Change(change) => self::change(volume, change),
         // These are no calls.
         Line::Mkfs(_) | Line::Mount(_) | Line::Umount => Reply::AlreadyMounted,

@@ -6,14 +6,14 @@ ghost use Rattle.zn_model.specs.declared.answers.FormatError.TheVariants.{BadZon
 ghost use Rattle.zn_model.specs.declared.answers.MountError.TheVariants.{NotFormatted};
 ghost use Rattle.zn_lines.specs.ReplyTexts.{mount_error_name, format_error_name, option_error_name};
 ghost use Rattle.zn_lines.specs.ReplyTexts.{refusal_name, error_text, ok_text, number_text, read_text, stat_text};
-ghost use Rattle.zn_lines.specs.ReplyTexts.{file_text, directory_text, octal_text, name_line, list_text};
+ghost use Rattle.zn_lines.specs.ReplyTexts.{file_text, directory_text, octal_text, name_line, list_text, attr_text};
 ghost use Rattle.std.specs.Fmt.{decimal};
 ghost use Rattle.zn_model.specs.declared.limits.TheConstants.{MOST_BYTES};
 ghost use Rattle.zn_model.specs.ZoneFiles.{names_to};
 ghost use Rattle.zn_session.specs.Replies.{text_of, front_text, IsWritable, directory_names};
 
 use zn_base::{Part, Sink, WriteFault, write_all, write_parts, write_runs};
-use zn_model::{FormatError, MountError, OptError, Refusal, Stat, Why};
+use zn_model::{Attr, FormatError, MountError, OptError, Refusal, Stat, Why};
 use zn_truth::Cond;
 
 /// What a line is answered.
@@ -45,6 +45,7 @@ pub enum Reply<'a> {
     Directories(bool, bool),
     /// The names of so many files: `0`, `1` and so on.
     Names(u32),
+    Attributes(Attr),
 }
 
 /// The name of a refusal.
@@ -332,6 +333,25 @@ fn write_names<K: Sink>(sink: &mut K, count: u32) -> Result<(), WriteFault>
     Ok(())
 }
 
+fn write_attr<K: Sink>(sink: &mut K, attr: &Attr) -> Result<(), WriteFault>
+    ensures { Writes result (attr_text attr.now) (K.state sink.old) (K.state sink.new) }
+{
+    write_parts(
+        sink,
+        &[
+            Part::Text(b"ok max_wro_seq_files="),
+            Part::Number(attr.max_wro as u64),
+            Part::Text(b" nr_wro_seq_files="),
+            Part::Number(attr.nr_wro as u64),
+            Part::Text(b" max_active_seq_files="),
+            Part::Number(attr.max_active as u64),
+            Part::Text(b" nr_active_seq_files="),
+            Part::Number(attr.nr_active as u64),
+            Part::Text(b"\n"),
+        ],
+    )
+}
+
 /// Writes the text of a reply. The buffer has the bytes of a read.
 pub fn write_reply<K: Sink>(
     sink: &mut K,
@@ -357,5 +377,6 @@ pub fn write_reply<K: Sink>(
         Reply::Told(path, stat) => write_stat(sink, path.as_bytes(), stat),
         Reply::Directories(cnv, seq) => write_directories(sink, *cnv, *seq),
         Reply::Names(count) => write_names(sink, *count),
+        Reply::Attributes(attr) => write_attr(sink, attr),
     }
 }

@@ -1,5 +1,6 @@
-ghost use Rattle.std.specs.Prelude.{◌≡◌, IfOk, false};
+ghost use Rattle.std.specs.Prelude.{◌≡◌, ◌≤◌, IfOk, false};
 ghost use Rattle.zn_device.specs.Memory.{state_of};
+ghost use Rattle.zn_truth.specs.declared.limits.TheConstants.{MAX_ZONES};
 
 use crate::Session;
 use std::alloc::Global;
@@ -13,14 +14,29 @@ use zn_script::{FormatWords, Line};
 use zn_truth::{Kind, Shape};
 
 /// A new device of four zones of two blocks each: the first of this kind, a conventional one, and two sequential ones.
+/// It has no limits.
 fn device(alloc: Global, first: Kind) -> Result<MemDevice, Fail>
+    ensures { IfOk result (λ dev. (state_of dev).spoilt ≡ false) }
+{
+    limited_device(alloc, first, 0, 0)
+}
+
+/// The same with limits on open and active zones.
+fn limited_device(
+    alloc: Global,
+    first: Kind,
+    max_open: u32,
+    max_active: u32,
+) -> Result<MemDevice, Fail>
+    requires ordered { max_open ≤ max_active }
+    requires zones { max_active ≤ MAX_ZONES }
     ensures { IfOk result (λ dev. (state_of dev).spoilt ≡ false) }
 {
     let shape = Shape {
         zone_blocks: 2,
         zone_capacity: 2,
-        max_open: 0,
-        max_active: 0,
+        max_open,
+        max_active,
     };
     let kinds = [
         first,
@@ -141,6 +157,72 @@ fn formats_mounts_and_unmounts(rt: HostRuntime) -> Result<(), Fail> {
                 ok 1 61*1\n";
     tells(&rt, alloc, device(alloc, Kind::Conventional)?, script, told)?;
     tells(&rt, alloc, device(alloc, Kind::Sequential)?, script, told)
+}
+
+/// A file is truncated to no bytes and to its capacity, and synced by any handle; it is active where it is held open or
+/// shown partly full.
+#[test]
+fn truncates_syncs_and_tells_attributes(rt: HostRuntime) -> Result<(), Fail> {
+    let alloc = rt.alloc();
+    let script = "truncate 0 0\n\
+                  sync 0\n\
+                  attr\n\
+                  mkfs\n\
+                  mount explicit-open\n\
+                  attr\n\
+                  open 0 seq/0 rw\n\
+                  open 1 seq/0 r\n\
+                  open 2 cnv/0 rw\n\
+                  attr\n\
+                  write 0 0 61*4096\n\
+                  sync 1\n\
+                  truncate 0 4096\n\
+                  truncate 1 0\n\
+                  truncate 2 0\n\
+                  truncate 0 8192\n\
+                  size 1\n\
+                  attr\n\
+                  truncate 0 0\n\
+                  size 1\n\
+                  write 0 0 62*4096\n\
+                  attr\n\
+                  close 0\n\
+                  sync 0\n\
+                  truncate 7 0\n\
+                  attr\n";
+    let told = "error not-mounted\n\
+                error not-mounted\n\
+                error not-mounted\n\
+                ok\n\
+                ok\n\
+                ok max_wro_seq_files=1 nr_wro_seq_files=0 max_active_seq_files=2 nr_active_seq_files=0\n\
+                ok\n\
+                ok\n\
+                ok\n\
+                ok max_wro_seq_files=1 nr_wro_seq_files=1 max_active_seq_files=2 nr_active_seq_files=1\n\
+                ok\n\
+                ok\n\
+                error not-allowed\n\
+                error bad-mode\n\
+                error not-allowed\n\
+                ok\n\
+                ok 8192\n\
+                ok max_wro_seq_files=1 nr_wro_seq_files=1 max_active_seq_files=2 nr_active_seq_files=0\n\
+                ok\n\
+                ok 0\n\
+                ok\n\
+                ok max_wro_seq_files=1 nr_wro_seq_files=1 max_active_seq_files=2 nr_active_seq_files=1\n\
+                ok\n\
+                error bad-handle\n\
+                error bad-handle\n\
+                ok max_wro_seq_files=1 nr_wro_seq_files=0 max_active_seq_files=2 nr_active_seq_files=1\n";
+    tells(
+        &rt,
+        alloc,
+        limited_device(alloc, Kind::Conventional, 1, 2)?,
+        script,
+        told,
+    )
 }
 
 /// A device that doesn't tell its bytes is formatted, mounted and read.

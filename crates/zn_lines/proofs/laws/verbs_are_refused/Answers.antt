@@ -4,4 +4,4 @@ use Rattle.zn_lines.proofs.laws.verbs_are_refused.Goals as goal
 
 pub returns : goal.returns
 unfolding verb_of line_of
-returns c = record { nothing = refl; other = refl; capital = refl; blank_before = refl }
+returns c = record { nothing = refl; other = refl; capital = refl; blank_before = refl; longer_verb = refl }
