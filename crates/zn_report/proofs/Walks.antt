@@ -1,15 +1,16 @@
 -- A walk over the zones: the files so far, and those of the zones that are left.
 use Rattle.std.proofs.Common.{◌≡◌, ℕ, zero, suc, ◌+◌, ◌-◌, ◌<◌, ◌≤◌, Bool, true, false, not, cond, eqb, ltb, List, [], ◌∷◌, ◌++◌, length, map, filter, get_or, refl, sym, ap, ◌∙◌, subst, append_assoc, length-append, arith}
-use Rattle.std.specs.Prelude.{◌&&◌, ◌||◌}
+use Rattle.std.specs.Prelude.{◌&&◌, ◌||◌, if◌then◌else◌, All}
 use Rattle.std.specs.List.{range_with_len}
 use Rattle.std.proofs.lemmas.List.{append-nil}
+use Rattle.std.proofs.lemmas.List.Elements.{All-push}
 use Rattle.std.proofs.lemmas.Bool.{lt-ltb, ne_eqb, both_ways, and_from, and_left, and_right, or_from, or_left, or_right}
 use Rattle.zn_truth.specs.declared.Kind.{Kind}
 use Rattle.zn_truth.specs.declared.Kind.TheVariants.{Conventional, Sequential}
 use Rattle.zn_truth.specs.Truth.{is_sequential}
 use Rattle.zn_model.specs.declared.files.FileZones.{FileZones}
 use Rattle.zn_model.specs.ZoneFiles.{Layout, layout_of, files_of, is_conventional, begins_cnv, begins_seq, run_length, cnv_file, seq_file}
-use Rattle.zn_report.specs.Layouts.{with_file, file_from}
+use Rattle.zn_report.specs.Layouts.{with_file, file_from, end_of}
 use Rattle.zn_report.proofs.Runs.{run_inside, run_kinds, run_some, run_stops}
 
 -- ---- filters of a range
@@ -103,12 +104,18 @@ cnv_left aggr kinds z = map (cnv_file aggr kinds) (filter (begins_cnv aggr kinds
 abbrev pub seq_left : List Kind → ℕ → List FileZones
 seq_left kinds z = map seq_file (filter (begins_seq kinds) (range_with_len z (length kinds - z)))
 
+-- each file ends before a zone
+abbrev pub EndBefore : ℕ → List FileZones → Type 0
+EndBefore z files = All (λ file. end_of file ≤ z) files
+
 -- The files of the zones before this one, where a file begins here if the zone is conventional.
 pub record IsWalked (aggr : Bool) (kinds : List Kind) (z : ℕ) (layout : Layout) : Type 0 where
   pub behind : 1 ≤ z
   pub inside : z ≤ length kinds
   pub count : length (files_of layout) < z
   pub starts : z < length kinds → is_conventional (get_or kinds z Sequential) ≡ true → begins_cnv aggr kinds z ≡ true
+  pub cnv_ends : EndBefore z layout.cnv
+  pub seq_ends : EndBefore z layout.seq
   pub cnv : layout.cnv ++ cnv_left aggr kinds z ≡ (layout_of kinds aggr).cnv
   pub seq : layout.seq ++ seq_left kinds z ≡ (layout_of kinds aggr).seq
 
@@ -160,6 +167,18 @@ cnv_starts aggr kinds z starts =
 seq_starts : (kinds : List Kind) (z : ℕ) → 1 ≤ z → begins_seq kinds z ≡ is_sequential (get_or kinds z Sequential)
 seq_starts kinds z behind = ap (λ (b : Bool). b && is_sequential (get_or kinds z Sequential)) (lt-ltb 0 z behind)
 
+-- what begins at a zone has it as its first
+first_is : (b aggr : Bool) (kinds : List Kind) (z : ℕ) → (cond b (seq_file z) (cnv_file aggr kinds z)).first ≡ z
+first_is true aggr kinds z = refl
+first_is false aggr kinds z = refl
+
+-- what ended before a zone ends before a later one, and so does a file more that ends there
+ends_more : (b : Bool) (file : FileZones) (l : List FileZones) (z end : ℕ) → z ≤ end → end_of file ≤ end → EndBefore z l → EndBefore end (cond b l (l ++ file ∷ [])) × EndBefore end (cond b (l ++ file ∷ []) l)
+ends_more b file l z end later here before =
+    let kept : EndBefore end l = λ k d inside. omega (arith, before k d inside, later) in
+    let more : EndBefore end (l ++ file ∷ []) = All-push (λ file. end_of file ≤ end) l file kept here in
+    elim b as (λ (v : Bool). EndBefore end (cond v l (l ++ file ∷ [])) × EndBefore end (cond v (l ++ file ∷ []) l)) [ true ↦ (kept, more) | false ↦ (more, kept) ]
+
 -- it goes on behind the file that begins here
 pub walked_more : (aggr : Bool) (kinds : List Kind) (z : ℕ) (layout : Layout) → IsWalked aggr kinds z layout → z < length kinds
     → IsWalked aggr kinds (z + (file_from aggr kinds z).zones) (with_file layout (file_from aggr kinds z))
@@ -182,11 +201,16 @@ walked_more aggr kinds z layout so_far more =
     ∙ joined (begins_seq kinds z) seq_file layout.seq z seq_rest
     ∙ ap (λ (b : Bool). cond b (layout.seq ++ seq_file z ∷ []) layout.seq ++ map seq_file seq_rest) (seq_starts kinds z so_far.behind)
     ∙ ap (λ (l : List FileZones). l ++ map seq_file seq_rest) (seq_kind s aggr kinds z layout) in
+    let first = first_is s aggr kinds z in
+    let later : z ≤ z + m = omega arith in
+    let end : end_of file ≤ z + m = omega (arith, first) in
     record {
       behind = omega (arith, so_far.behind);
       inside = here.inside;
       count = omega (arith, so_far.count, here.some, counted file.seq file layout.cnv layout.seq);
       starts = here.next;
+      cnv_ends = (ends_more file.seq file layout.cnv z (z + m) later end so_far.cnv_ends).0;
+      seq_ends = (ends_more file.seq file layout.seq z (z + m) later end so_far.seq_ends).1;
       cnv = sym cnv ∙ so_far.cnv;
       seq = sym seq ∙ so_far.seq;
     }
@@ -197,6 +221,14 @@ pub walked_step : (aggr : Bool) (kinds : List Kind) (z : ℕ) (old new : Layout)
 walked_step aggr kinds z old new file so_far more is added =
     subst (λ (layout : Layout). IsWalked aggr kinds (z + file.zones) layout) (sym added)
     (subst (λ (f : FileZones). IsWalked aggr kinds (z + f.zones) (with_file old f)) (sym is) (walked_more aggr kinds z old so_far more))
+
+-- each file so far ends before the next begins
+pub walked_behind : (aggr : Bool) (kinds : List Kind) (z : ℕ) (layout : Layout) (file : FileZones) → IsWalked aggr kinds z layout → file ≡ file_from aggr kinds z
+    → EndBefore file.first (if file.seq then layout.seq else layout.cnv)
+walked_behind aggr kinds z layout file so_far is =
+    let first : file.first ≡ z = ap (λ (f : FileZones). f.first) is ∙ first_is (is_sequential (get_or kinds z Sequential)) aggr kinds z in
+    let P : ℕ → Type 0 = λ n. EndBefore n (if file.seq then layout.seq else layout.cnv) in
+    subst P (sym first) (elim file.seq as (λ b. EndBefore z (if b then layout.seq else layout.cnv)) [ true ↦ so_far.seq_ends | false ↦ so_far.cnv_ends ])
 
 -- and it does go on
 pub goes_on : (aggr : Bool) (kinds : List Kind) (z : ℕ) (file : FileZones) → file ≡ file_from aggr kinds z → 1 ≤ z → z < length kinds → z < z + file.zones

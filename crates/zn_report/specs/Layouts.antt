@@ -1,5 +1,7 @@
 -- How a layout is put together, and what each of its files is. (own)
 use Rattle.std.specs.Prelude.{◌≡◌, ℕ, ◌+◌, ◌<◌, ◌≤◌, Bool, true, false, List, [], ◌∷◌, ◌++◌, length, if◌then◌else◌, slice_index_or, All}
+use Rattle.std.specs.List.{AllPairs}
+use Rattle.zn_truth.specs.declared.limits.TheConstants.{MAX_ZONES}
 use Rattle.zn_truth.specs.declared.Kind.{Kind}
 use Rattle.zn_truth.specs.declared.Kind.TheVariants.{Sequential}
 use Rattle.zn_truth.specs.Truth.{is_sequential}
@@ -16,6 +18,20 @@ with_file layout file = record {
   cnv = if file.seq then layout.cnv else layout.cnv ++ file ∷ [];
   seq = if file.seq then layout.seq ++ file ∷ [] else layout.seq;
 }
+
+-- the zone behind the last of a file
+abbrev pub end_of : FileZones → ℕ
+end_of file = file.first + file.zones
+
+-- each file lies behind those before it
+pub record AreInOrder (files : List FileZones) : Type 0 where
+  pub pairs : AllPairs (λ a b. end_of a ≤ b.first) files
+
+-- What is kept of files: there are fewer than a device may have zones, and those of each kind are in order.
+pub record IsKept (cnv seq : List FileZones) : Type 0 where
+  pub count : length cnv + length seq < MAX_ZONES
+  pub cnv_order : AreInOrder cnv
+  pub seq_order : AreInOrder seq
 
 -- the file whose first zone is this one: a sequential zone is one of its own
 abbrev pub file_from : Bool → List Kind → ℕ → FileZones

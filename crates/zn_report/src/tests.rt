@@ -1,3 +1,5 @@
+ghost use Rattle.std.specs.Prelude.{◌≡◌};
+
 use crate::{Layout, layout, zone_line};
 use std::alloc::{AllocError, Global};
 use std::test::Fail;
@@ -73,19 +75,63 @@ fn layouts(rt: HostRuntime) -> Result<(), Fail> {
     Ok(())
 }
 
+/// So many zones from one on.
+fn file(first: u32, zones: u32, seq: bool) -> FileZones
+    ensures { result ≡ record { first = first; zones = zones; seq = seq } }
+{
+    FileZones { first, zones, seq }
+}
+
 // A layout that is put together by hand: a file of `cnv` that comes later goes before those of `seq`.
 #[test]
 fn adds_by_kind(rt: HostRuntime) -> Result<(), Fail> {
     let mut files = Layout::new(rt.alloc());
     assert_eq!(rt; files.files(), 0);
-    for (first, zones, seq) in [(1, 1, true), (2, 3, false), (5, 1, true)] {
-        assert!(rt; files.files() < 3);
-        files.add(FileZones { first, zones, seq })?;
-    }
+    files.add(file(1, 1, true))?;
+    files.add(file(2, 3, false))?;
+    files.add(file(5, 1, true))?;
     let all = zones_in(rt.alloc(), &files)?;
     let want = [(2, 3, false), (1, 1, true), (5, 1, true)];
     assert_eq!(rt; all.as_slice(), want.as_slice());
     assert_eq!(rt; files.cnv_files(), 1);
+    Ok(())
+}
+
+// Zone 0 is conventional, 1 and 2 are a run, 3 and 5 are sequential, and 4 is conventional; there is no zone 6.
+#[test]
+fn places(rt: HostRuntime) -> Result<(), Fail> {
+    let kinds = [CNV, CNV, CNV, SEQ, CNV, SEQ];
+    for (aggr, want) in [
+        (
+            false,
+            [
+                Place::Super,
+                Place::Cnv(0),
+                Place::Cnv(1),
+                Place::Seq(0),
+                Place::Cnv(2),
+                Place::Seq(1),
+                Place::Unplaced,
+            ],
+        ),
+        (
+            true,
+            [
+                Place::Super,
+                Place::Cnv(0),
+                Place::Cnv(0),
+                Place::Seq(0),
+                Place::Cnv(1),
+                Place::Seq(1),
+                Place::Unplaced,
+            ],
+        ),
+    ] {
+        let files = layout(rt.alloc(), &kinds, aggr)?;
+        for (z, place) in (0..).zip(want) {
+            assert_eq!(rt; files.place(ZoneNo(z)), place, "of zone {z}, {aggr}");
+        }
+    }
     Ok(())
 }
 
