@@ -1,2 +1,3 @@
 pub mod Conditions
+pub mod Mounts
 pub mod Rooms

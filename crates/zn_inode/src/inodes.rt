@@ -1,15 +1,31 @@
 // The files, what each shows, and whether the file system is read-only.
-ghost use Rattle.std.specs.Prelude.{◌≡◌, ◌*◌, ◌^◌, ◌<◌, ◌≤◌, length, false};
-ghost use Rattle.zn_truth.specs.declared.limits.TheConstants.{BLOCK_SIZE, MAX_ZONES};
-ghost use Rattle.zn_model.specs.ZoneFiles.{files_of, room_of};
+ghost use Rattle.std.specs.Prelude.{◌≡◌, ◌<◌, ◌≤◌, length, map, IfOk};
+ghost use Rattle.zn_truth.specs.declared.limits.TheConstants.{MAX_ZONES};
+ghost use Rattle.zn_model.specs.ZoneFiles.{files_of, room_of, place_of};
 ghost use Rattle.zn_model.specs.Volume.{file_at, capacity_at, shown_at, with_shown};
 ghost use Rattle.zn_model.specs.Recovery.{recovered_inodes};
+ghost use Rattle.zn_model.specs.RecoveryLaws.{OthersStay};
+ghost use Rattle.zn_inode.specs.Mounts.{AreInside, mounted_from as file_mounted, mounted_inodes};
 ghost use Rattle.zn_inode.specs.Sizes.{IsWithinRoom};
 
+use crate::shown::mounted_from;
 use crate::{makes_read_only, recovered_shown};
+use std::alloc::{AllocError, Global};
 use std::marker::Model;
-use zn_model::{FileZones, Found, Policy, Shape, Shown};
+use zn_model::{Cond, FileZones, Found, Place, Policy, Shape, Shown, ZoneInfo, ZoneNo};
 use zn_report::Layout;
+
+/// Puts what a mount shows of each file to its number, where a report of all zones told this.
+fn show_mounted(shown: &mut [Shown], layout: &Layout, infos: &[ZoneInfo])
+    requires places { length shown.old ≡ length (files_of layout.now) }
+    requires inside { AreInside (length infos.now) layout.now }
+    requires most { length infos.now ≤ MAX_ZONES }
+    ensures { shown.new ≡ map (file_mounted infos.now) (files_of layout.now) }
+{
+    for f in 0..layout.files() {
+        shown[f as usize] = mounted_from(&layout.zones_of(f), infos);
+    }
+}
 
 /// The files by their numbers, on a device whose zones have this shape, and what each shows.
 #[derive(Drop)]
@@ -38,17 +54,42 @@ impl Model for Inodes {
 }
 
 impl Inodes {
-    /// The files of a layout, each of which shows what stands at its number; the file system may be written.
-    pub fn new(layout: Layout, shown: Vec<Shown>, shape: Shape) -> Inodes
-        requires { length shown.items ≡ length (files_of layout) }
-        ensures { result ≡ record { layout = layout; shape = shape; shown = shown.items; read_only = false } }
+    /// The files of a layout, each with what a mount shows of it where a report of all zones told this; the file system
+    /// may be written.
+    pub fn new(
+        alloc: Global,
+        layout: Layout,
+        infos: &[ZoneInfo],
+        shape: Shape,
+    ) -> Result<Inodes, AllocError>
+        requires inside { AreInside (length infos.now) layout }
+        requires most { length infos.now ≤ MAX_ZONES }
+        ensures { IfOk result (λ inodes. inodes ≡ mounted_inodes layout shape infos.now) }
     {
-        Inodes {
+        let nothing = Shown {
+            size: 0,
+            may_read: false,
+            may_write: false,
+            held_open: false,
+        };
+        let mut shown = vec![in alloc; nothing; layout.files() as usize]?;
+        show_mounted(&mut shown, &layout, infos);
+        Ok(Inodes {
             layout,
             shape,
             shown,
             read_only: false,
-        }
+        })
+    }
+
+    /// The same files as a mount leaves them where a report of all zones told this.
+    pub fn mount(&mut self, infos: &[ZoneInfo])
+        requires inside { AreInside (length infos.now) self.old.layout }
+        requires most { length infos.now ≤ MAX_ZONES }
+        ensures { self.new ≡ mounted_inodes self.old.layout self.old.shape infos.now }
+    {
+        show_mounted(&mut self.shown, &self.layout, infos);
+        self.read_only = false;
     }
 
     /// How many files there are.
@@ -89,6 +130,13 @@ impl Inodes {
         self.shown[f as usize]
     }
 
+    /// Where a zone is shown: zone 0 is the super block's, and a zone of no file has no place.
+    pub fn place(&self, z: ZoneNo) -> Place
+        ensures { result ≡ place_of self.now.layout z.0 }
+    {
+        self.layout.place(z)
+    }
+
     /// Whether the file system is read-only.
     pub fn read_only(&self) -> bool
         ensures { result ≡ self.now.read_only }
@@ -105,16 +153,21 @@ impl Inodes {
         self.shown[f as usize] = shown;
     }
 
-    /// Changes a file, and with `remount-ro` the whole file system, by what was found of the file's zones.
+    /// Changes a file, and with `remount-ro` the whole file system, by what was found of the file's zones: their worst
+    /// condition, and the blocks that they hold.
     #[tactic(auto, unfolding(zn_model::specs::Recovery::recovered_inodes))]
-    pub fn recover(&mut self, f: u32, policy: Policy, found: &Found)
-        requires file { f < length (files_of self.old.layout) }
-        requires held { BLOCK_SIZE * found.now.held < 2 ^ 64 }
-        ensures recovered { self.new ≡ recovered_inodes policy found.now self.old f }
-        ensures within { IsWithinRoom self.old → found.now.held ≤ room_of self.old.shape (file_at self.old f)
+    pub fn recover(&mut self, f: u32, policy: Policy, cond: Cond, held: u32)
+        requires { f < length (files_of self.old.layout) }
+        ensures recovered { self.new ≡ recovered_inodes policy (record { cond = cond; held = held }) self.old f }
+        ensures others { OthersStay self.old self.new f }
+        ensures within { IsWithinRoom self.old → held ≤ room_of self.old.shape (file_at self.old f)
             → IsWithinRoom self.new }
     {
-        let shown = recovered_shown(policy, found, &self.shape(), &self.file(f), &self.shown(f));
+        let found = Found {
+            cond,
+            held: u64::from(held),
+        };
+        let shown = recovered_shown(policy, &found, &self.shape(), &self.file(f), &self.shown(f));
         self.set(f, shown);
         self.read_only = self.read_only || makes_read_only(policy);
     }

@@ -4,6 +4,8 @@ ghost use Rattle.zn_truth.specs.declared.limits.TheConstants.{MAX_ZONES};
 ghost use Rattle.zn_model.specs.ZoneFiles.{zone_room_of, room_of, capacity_of};
 ghost use Rattle.zn_model.specs.ShownStates.{policy_row as row_of, worst as worst_of, worse as worse_of, holds as holds_of, mounted_by, makes_read_only as policy_makes_read_only};
 ghost use Rattle.zn_model.specs.Recovery.{recovered_shown as shown_recovered};
+ghost use Rattle.zn_report.specs.Layouts.{end_of};
+ghost use Rattle.zn_inode.specs.Mounts.{mounted_from as file_mounted};
 
 use zn_model::{Cond, FileZones, Found, Policy, Shape, Shown, ZoneInfo};
 use zn_truth::BLOCK_SIZE;
@@ -115,6 +117,16 @@ pub fn mounted_shown(infos: &[ZoneInfo]) -> Shown
             held_open: false,
         },
     }
+}
+
+/// What a mount shows of a file, where a report of all zones told this.
+pub(crate) fn mounted_from(file: &FileZones, infos: &[ZoneInfo]) -> Shown
+    requires inside { end_of file.now ≤ length infos.now }
+    requires most { length infos.now ≤ MAX_ZONES }
+    ensures { result ≡ file_mounted infos.now file.now }
+{
+    let first = file.first as usize;
+    mounted_shown(&infos[first..first + file.zones as usize])
 }
 
 /// What a file shows after this was found of its zones.

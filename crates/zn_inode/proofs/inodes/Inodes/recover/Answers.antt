@@ -8,7 +8,7 @@ pub returns-clause-within : goal.returns-clause-within
 returns-clause-within c within most =
     let inodes = c.args.self.now in
     let f = c.args.f in
-    let row = recovered_within c.args.policy c.args.found.now inodes.shape (file_at inodes f) (shown_at inodes f) most (within.size f c.requires.file) in
-    let fits : c.recovered_shown-shown.result.size ≤ capacity_at inodes f = rw (c.recovered_shown-shown.ensures, c.shape.ensures, c.file.ensures, c.shown.ensures) row in
+    let row = recovered_within c.args.policy (record { cond = c.args.cond; held = c.args.held }) inodes.shape (file_at inodes f) (shown_at inodes f) most (within.size f c.requires) in
+    let fits : c.recovered_shown-shown.result.size ≤ capacity_at inodes f = rw (c.recovered_shown-shown.ensures, c.from.ensures, c.shape.ensures, c.file.ensures, c.shown.ensures) row in
     let all = subst IsWithinRoom (sym c.self.view_is) (c.set.ensures.within within fits) in
     record { size = all.size }
