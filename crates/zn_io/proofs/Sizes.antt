@@ -1,9 +1,10 @@
 -- A file holds no more than it has room for.
-use Rattle.std.proofs.Common.{◌≡◌, ℕ, zero, suc, ◌+◌, ◌*◌, ◌<◌, ◌≤◌, Bool, true, false, List, ◌∷◌, length, map, Ok, Err, refl, sym, ap, ◌∙◌, subst, arith, add-zero}
+use Rattle.std.proofs.Common.{◌≡◌, ℕ, zero, suc, ◌+◌, ◌*◌, ◌^◌, ◌<◌, ◌≤◌, Bool, true, false, List, ◌∷◌, length, map, Result, Ok, Err, refl, sym, ap, ◌∙◌, subst, arith, add-zero}
 use Rattle.std.specs.Prelude.{IsOk, IfOk, if◌then◌else◌}
 use Rattle.std.specs.List.{range_with_len}
 use Rattle.std.proofs.Math.Nat.{suc-mul}
 use Rattle.std.proofs.lemmas.List.Sums.{sum_by-cons}
+use Rattle.std.proofs.lemmas.Nat.{mul-le}
 use Rattle.zn_truth.specs.declared.ZoneInfo.{ZoneInfo}
 use Rattle.zn_truth.specs.declared.Cond.TheVariants.{Offline}
 use Rattle.zn_truth.specs.declared.DevError.{DevError}
@@ -48,3 +49,12 @@ pub found_below : (w : World) (file : FileZones) (r : Reply) (infos : List ZoneI
     → IfOk (found_by r infos) (λ found. found.held ≤ room_of (shape_of w) file)
 found_below w file (Ok unit) infos sound is told = let e : holds infos ≡ holds (infos_of w.truth file) = ap holds (told refl) in omega (arith, e, holds_file w file sound is)
 found_below w file (Err error) infos sound is told = failed_below (is_passed_on error) error (room_of (shape_of w) file)
+
+-- a file's blocks are few
+pub room_below : (w : World) (file : FileZones) → IsFile (geometry_of w) file → room_of (shape_of w) file < 2 ^ 32
+room_below w file is = omega (arith, mul-le file.zones (zone_room_of (shape_of w) file) 4096 65536 (omega (arith, is.inside, is.most)) is.most_room)
+
+-- and so are those that are found
+pub held_below : (r : Result Found DevError) (most : ℕ) → most < 2 ^ 32 → IfOk r (λ found. found.held ≤ most) → IfOk r (λ found. found.held < 2 ^ 32)
+held_below (Ok found) most few fits = omega (arith, fits)
+held_below (Err error) most few fits = tt

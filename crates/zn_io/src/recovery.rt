@@ -27,8 +27,7 @@ pub fn is_passed_on(error: DevError) -> bool
 /// What a report with this reply found.
 fn found_in(reply: Result<(), DevError>, infos: &[ZoneInfo]) -> Result<Found, DevError>
     requires { length infos.now ≤ MAX_ZONES }
-    ensures found { result ≡ found_by reply infos.now }
-    ensures held { IfOk result (λ found. BLOCK_SIZE * found.held < 2 ^ 64) }
+    ensures { result ≡ found_by reply infos.now }
 {
     match reply {
         Ok(()) => Ok(Found {
@@ -54,7 +53,7 @@ pub fn find<D: Zoned>(
     requires places { length infos.old ≡ file.now.zones }
     requires unspoilt { (D.state dev.old).spoilt ≡ false }
     ensures step { Finds file.now result (D.state dev.old) (D.state dev.new) }
-    ensures held { IfOk result (λ found. BLOCK_SIZE * found.held < 2 ^ 64) }
+    ensures held { IfOk result (λ found. found.held < 2 ^ 32) }
     ensures fits { IfOk result (λ found. found.held ≤ room_of (shape_of (D.state dev.old).world) file.now) }
 {
     let reply = dev.report(ZoneNo(file.first), infos);
@@ -93,6 +92,6 @@ pub fn recover_file<D: Zoned>(
     if agrees_after_read(after_read, &found, &inodes.shown(file)) {
         return Ok(false);
     }
-    inodes.recover(file, policy, &found);
+    inodes.recover(file, policy, found.cond, found.held as u32);
     Ok(true)
 }

@@ -73,14 +73,15 @@ fn a_file_is_recovered(rt: HostRuntime) -> Result<(), Fail> {
         let mut dev = device(rt.alloc())?;
         let mut layout = Layout::new(rt.alloc());
         layout.add(file)?;
-        let shown = vec![in rt.alloc(); showing(size)]?;
-        let mut inodes = Inodes::new(layout, shown, dev.shape());
-        let none = ZoneInfo {
+        let empty = ZoneInfo {
             cond: Cond::Good,
             held: 0,
             explicit: false,
         };
-        let mut infos = [none];
+        let mut infos = [empty, empty];
+        let mut inodes = Inodes::new(rt.alloc(), layout, &infos, dev.shape())?;
+        assert_eq!(rt; inodes.files(), 1);
+        inodes.set(0, showing(size));
         let reply = recover_file(&mut dev, &mut inodes, 0, Policy::Repair, true, &mut infos);
         assert_eq!(rt; reply, Ok(changed));
         assert_eq!(rt; inodes.shown(0), showing(0));
