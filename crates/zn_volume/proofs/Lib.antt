@@ -5,7 +5,6 @@ pub mod Counting
 pub mod Closings
 pub mod Naming
 pub mod Layouts
-pub mod Fresh
 pub mod Refusing
 pub mod Giving
 pub mod IoErrors

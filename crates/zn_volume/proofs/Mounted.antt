@@ -7,6 +7,7 @@ use Rattle.zn_truth.specs.declared.Cond.{Cond}
 use Rattle.zn_truth.specs.declared.Cond.TheVariants.{Good, ReadOnly as cond_read_only, Offline as cond_offline}
 use Rattle.zn_truth.specs.declared.Kind.{Kind}
 use Rattle.zn_truth.specs.declared.Shape.{Shape}
+use Rattle.zn_truth.specs.declared.ZoneInfo.{ZoneInfo}
 use Rattle.zn_truth.specs.Truth.{Truth, Geometry, geometry, IsSound}
 use Rattle.zn_truth.specs.World.{World, geometry_of}
 use Rattle.zn_truth.specs.Limits.{IsWithinLimits}
@@ -19,10 +20,12 @@ use Rattle.zn_model.specs.declared.files.Shown.{Shown}
 use Rattle.zn_model.specs.SuperBlock.{SuperBlock}
 use Rattle.zn_model.specs.ZoneFiles.{Layout, layout_of, files_of}
 use Rattle.zn_model.specs.ShownStates.{infos_of, worst, holds, showing, mounted_by, mounted_shown}
-use Rattle.zn_model.specs.Looks.{report_all}
+use Rattle.zn_model.specs.Looks.{all_infos, report_all}
 use Rattle.zn_model.specs.Mounting.{MountAnswer, fresh_handles, fresh_inodes, fresh_queue, fresh_volume, mount_call}
 use Rattle.zn_model.specs.Volume.{Inodes, Handles, Volume, file_at, shown_at, no_file}
+use Rattle.zn_inode.specs.Mounts.{AreInside, mounted_inodes}
 use Rattle.zn_inode.specs.Sizes.{IsWithinRoom}
+use Rattle.zn_inode.proofs.Mounts.{mounted_fresh}
 use Rattle.zn_handle.specs.HandleState as handles
 use Rattle.zn_io.specs.Files.{IsFile}
 use Rattle.zn_io.proofs.Sizes.{holds_file}
@@ -40,23 +43,21 @@ geometry-of w = refl
 
 -- ---- the files
 
--- the files that were prepared, with what is shown of them
-pub fresh_is : (t : Truth) (g : Geometry) (aggr : Bool) (before after : Inodes) (seen : handles.HandleState) → ArePrepared g.kinds aggr g.shape before seen → geometry t ≡ g
-    → after ≡ record before { shown = map (mounted_shown t) (files_of before.layout) } → after ≡ fresh_inodes t (layout_of (geometry t).kinds aggr)
-fresh_is t g aggr before after seen prepared same is =
-    let l : before.layout ≡ layout_of (geometry t).kinds aggr = prepared.layout ∙ ap (λ (h : Geometry). layout_of h.kinds aggr) (sym same) in
+-- the files that were prepared, mounted by what the device holds
+pub fresh_is : (t : Truth) (g : Geometry) (aggr : Bool) (before after : Inodes) (seen : handles.HandleState) (infos : List ZoneInfo) → ArePrepared g.kinds aggr g.shape before seen → geometry t ≡ g
+    → AreInside (length infos) before.layout → infos ≡ all_infos t → after ≡ mounted_inodes before.layout before.shape infos → after ≡ fresh_inodes t (layout_of (geometry t).kinds aggr)
+fresh_is t g aggr before after seen infos prepared same inside told is =
     is
-    ∙ ap (λ (x : Layout). let i : Inodes = record { layout = x; shape = before.shape; shown = map (mounted_shown t) (files_of x); read_only = before.read_only } in i) l
-    ∙ ap (λ (x : Shape). let i : Inodes = record { layout = layout_of (geometry t).kinds aggr; shape = x; shown = map (mounted_shown t) (files_of (layout_of (geometry t).kinds aggr)); read_only = before.read_only } in i)
-    (prepared.shape ∙ sym (ap (λ (h : Geometry). h.shape) same))
-    ∙ ap (λ (x : Bool). let i : Inodes = record { layout = layout_of (geometry t).kinds aggr; shape = t.shape; shown = map (mounted_shown t) (files_of (layout_of (geometry t).kinds aggr)); read_only = x } in i) prepared.writable
+    ∙ ap (λ (shape : Shape). mounted_inodes before.layout shape infos) (prepared.shape ∙ sym (ap (λ (h : Geometry). h.shape) same))
+    ∙ ap (λ (l : List ZoneInfo). mounted_inodes before.layout t.shape l) told
+    ∙ mounted_fresh t before.layout (subst (λ (l : List ZoneInfo). AreInside (length l) before.layout) told inside)
+    ∙ ap (λ (l : Layout). fresh_inodes t l) (prepared.layout ∙ ap (λ (h : Geometry). layout_of h.kinds aggr) (sym same))
 
 -- the zones of files that were prepared lie in the device
 pub prepared_inside : (kinds : List Kind) (aggr : Bool) (shape : Shape) (inodes : Inodes) (seen : handles.HandleState) (n : ℕ) → ArePrepared kinds aggr shape inodes seen → n ≡ length kinds
-    → All (λ (file : FileZones). file.first + file.zones ≤ n) (files_of inodes.layout)
+    → AreInside n inodes.layout
 prepared_inside kinds aggr shape inodes seen n prepared is =
-    subst (λ (l : Layout). All (λ (file : FileZones). file.first + file.zones ≤ n) (files_of l)) (sym prepared.layout)
-    (subst (λ (m : ℕ). All (λ (file : FileZones). file.first + file.zones ≤ m) (files_of (layout_of kinds aggr))) (sym is) (layout_inside kinds aggr))
+    subst (λ (l : Layout). AreInside n l) (sym prepared.layout) (subst (λ (m : ℕ). AreInside m (layout_of kinds aggr)) (sym is) (layout_inside kinds aggr))
 
 -- ---- what the parts of a volume keep to
 

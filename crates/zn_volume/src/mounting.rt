@@ -1,11 +1,9 @@
 // Mounts.
-ghost use Rattle.std.specs.Prelude.{◌≡◌, ◌+◌, ◌*◌, ◌≤◌, List, length, map, All, false, true, Ok, IfOk, IfErr};
-ghost use Rattle.zn_truth.specs.declared.limits.TheConstants.{BLOCK_SIZE, MAX_ZONES};
+ghost use Rattle.std.specs.Prelude.{◌≡◌, List, length, false, true, Ok, IfOk, IfErr};
 ghost use Rattle.zn_truth.specs.declared.Kind.{Kind as TheKind};
 ghost use Rattle.zn_truth.specs.declared.Shape.{Shape as TheShape};
 ghost use Rattle.zn_truth.specs.Truth.{Truth, geometry};
 ghost use Rattle.zn_model.specs.declared.files.MountOpts.{MountOpts as TheMountOpts};
-ghost use Rattle.zn_model.specs.ShownStates.{mounted_shown as mounted_shown_of};
 ghost use Rattle.zn_model.specs.Looks.{all_infos};
 ghost use Rattle.zn_model.specs.Mounting.{fresh_inodes, fresh_handles};
 ghost use Rattle.zn_model.specs.ZoneFiles.{layout_of, files_of};
@@ -20,8 +18,8 @@ use crate::volume::Volume;
 use std::alloc::Global;
 use zn_device::Zoned;
 use zn_handle::Handles;
-use zn_inode::{Inodes, mounted_shown};
-use zn_model::{FileZones, MountError, MountOpts, Shown};
+use zn_inode::Inodes;
+use zn_model::{MountError, MountOpts};
 use zn_super::Super;
 use zn_truth::ZoneInfo;
 
@@ -30,31 +28,6 @@ use zn_truth::ZoneInfo;
 pub struct MountFail<D> {
     pub dev: D,
     pub why: MountError,
-}
-
-/// What a file shows at a mount, after this report of all zones.
-#[tactic(auto, using(crate::proofs::Fresh::shown_is))]
-fn file_shown(file: &FileZones, infos: &[ZoneInfo]) -> Shown
-    requires inside { file.now.first + file.now.zones ≤ length infos.now }
-    requires most { length infos.now ≤ MAX_ZONES }
-    ensures { (t : Truth) → infos.now ≡ all_infos t → result ≡ mounted_shown_of t file.now }
-{
-    let first = file.first as usize;
-    mounted_shown(&infos[first..first + file.zones as usize])
-}
-
-/// Notes what each file shows at a mount, after this report of all zones.
-fn show(inodes: &mut Inodes, infos: &[ZoneInfo])
-    requires inside { All (λ file. file.first + file.zones ≤ length infos.now) (files_of inodes.old.layout) }
-    requires most { length infos.now ≤ MAX_ZONES }
-    ensures shown { (t : Truth) → infos.now ≡ all_infos t →
-        inodes.new.shown ≡ map (mounted_shown_of t) (files_of inodes.old.layout) }
-    ensures rest { inodes.new ≡ record inodes.old { shown = inodes.new.shown } }
-{
-    for f in 0..inodes.files() {
-        let shown = file_shown(&inodes.file(f), infos);
-        inodes.set(f, shown);
-    }
 }
 
 /// The files with aggregation or without it.
@@ -102,7 +75,7 @@ fn filled<D: Zoned>(dev: &D, room: Room, super_block: Super) -> Parts
         mut inodes,
         handles,
     } = chosen(single, joined, super_block.aggr_cnv);
-    show(&mut inodes, &infos);
+    inodes.mount(&infos);
     Parts {
         super_block,
         inodes,

@@ -9,7 +9,6 @@ use zn_device::Zoned;
 use zn_handle::Handles;
 use zn_inode::Inodes;
 use zn_io::SCRATCH;
-use zn_model::Shown;
 use zn_report::layout;
 use zn_truth::{Cond, Kind, Shape, ZoneInfo, ZoneNo};
 
@@ -41,25 +40,35 @@ fn kinds_of<D: Zoned>(alloc: Global, dev: &D) -> Result<Vec<Kind>, AllocError>
     Ok(kinds)
 }
 
-/// The files of zones of these kinds.
-fn files_of(alloc: Global, kinds: &[Kind], aggr: bool, shape: Shape) -> Result<Files, AllocError>
+/// A place for what a report tells of each zone: as long as none did, each is as if it were offline.
+fn places<D: Zoned>(alloc: Global, dev: &D) -> Result<Vec<ZoneInfo>, AllocError>
+    ensures { IfOk result (λ infos. length infos.items ≡ length (geometry_of (D.state dev.now).world).kinds) }
+{
+    let untold = ZoneInfo {
+        cond: Cond::Offline,
+        held: 0,
+        explicit: false,
+    };
+    vec![in alloc; untold; dev.zones() as usize]
+}
+
+/// The files of zones of these kinds, with what a mount shows of them where a report told this.
+fn files_of(
+    alloc: Global,
+    kinds: &[Kind],
+    aggr: bool,
+    infos: &[ZoneInfo],
+    shape: Shape,
+) -> Result<Files, AllocError>
     requires some { 1 ≤ length kinds.now }
     requires most { length kinds.now ≤ MAX_ZONES }
+    requires places { length infos.now ≡ length kinds.now }
     ensures { IfOk result (λ files. ArePrepared kinds.now aggr shape files.inodes files.handles) }
 {
-    let nothing = Shown {
-        size: 0,
-        may_read: false,
-        may_write: false,
-        held_open: false,
-    };
     let layout = layout(alloc, kinds, aggr)?;
     let handles = Handles::new(alloc, layout.cnv_files(), layout.files())?;
-    let shown = vec![in alloc; nothing; layout.files() as usize]?;
-    Ok(Files {
-        inodes: Inodes::new(layout, shown, shape),
-        handles,
-    })
+    let inodes = Inodes::new(alloc, layout, infos, shape)?;
+    Ok(Files { inodes, handles })
 }
 
 /// All that a volume over this device needs.
@@ -71,15 +80,10 @@ pub(crate) fn take_room<D: Zoned>(alloc: Global, dev: &D) -> Result<Room, AllocE
     ensures infos { IfOk result (λ room. length room.infos.items ≡ length (geometry_of (D.state dev.now).world).kinds) }
     ensures scratch { IfOk result (λ room. length room.scratch.items ≡ BLOCK_SIZE * 257) }
 {
-    let nothing = ZoneInfo {
-        cond: Cond::Offline,
-        held: 0,
-        explicit: false,
-    };
     let kinds = kinds_of(alloc, dev)?;
-    let single = files_of(alloc, &kinds, false, dev.shape())?;
-    let joined = files_of(alloc, &kinds, true, dev.shape())?;
-    let infos = vec![in alloc; nothing; dev.zones() as usize]?;
+    let infos = places(alloc, dev)?;
+    let single = files_of(alloc, &kinds, false, &infos, dev.shape())?;
+    let joined = files_of(alloc, &kinds, true, &infos, dev.shape())?;
     let scratch = vec![in alloc; 0; SCRATCH]?;
     Ok(Room {
         single,

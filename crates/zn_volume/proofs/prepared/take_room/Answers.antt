@@ -13,5 +13,5 @@ returns-clause-single g c =
 
 pub returns-clause-joined : goal.returns-clause-joined
 returns-clause-joined g c =
-    subst (λ (kinds : List Kind). ArePrepared kinds true (geometry_of (g.D.Zoned.state c.args.dev.now).world).shape c.in_ok-joined.joined.inodes c.in_ok-joined.joined.handles) (c.deref-2.ensures.value ∙ c.in_ok-kinds.ensures)
-    (subst (λ (zones : Shape). ArePrepared c.deref-2.result.now true zones c.in_ok-joined.joined.inodes c.in_ok-joined.joined.handles) c.shape-2.ensures c.in_ok-joined.ensures)
+    subst (λ (kinds : List Kind). ArePrepared kinds true (geometry_of (g.D.Zoned.state c.args.dev.now).world).shape c.in_ok-joined.joined.inodes c.in_ok-joined.joined.handles) (c.deref-3.ensures.value ∙ c.in_ok-kinds.ensures)
+    (subst (λ (zones : Shape). ArePrepared c.deref-3.result.now true zones c.in_ok-joined.joined.inodes c.in_ok-joined.joined.handles) c.shape-2.ensures c.in_ok-joined.ensures)
