@@ -1,6 +1,5 @@
 -- What a mounted volume is, and what its parts keep to.
-use Rattle.std.proofs.Common.{◌≡◌, ℕ, ◌+◌, ◌-◌, ◌*◌, ◌<◌, ◌≤◌, Bool, true, false, List, ◌++◌, length, map, All, Result, Ok, Err, refl, sym, ap, ◌∙◌, subst, arith, cond}
-use Rattle.std.specs.Prelude.{slice_index_or, if◌then◌else◌}
+use Rattle.std.proofs.Common.{◌≡◌, ℕ, ◌*◌, ◌<◌, ◌≤◌, Bool, true, false, List, length, Ok, refl, sym, ap, ◌∙◌, subst, arith}
 use Rattle.std.proofs.lemmas.Bool.{false≢true}
 use Rattle.std.proofs.lemmas.List.{get_or-map}
 use Rattle.zn_truth.specs.declared.Cond.{Cond}
@@ -13,15 +12,13 @@ use Rattle.zn_truth.specs.World.{World, geometry_of}
 use Rattle.zn_truth.specs.Limits.{IsWithinLimits}
 use Rattle.zn_truth.specs.Obeying.{is_answered}
 use Rattle.zn_device.specs.States.{DeviceState, Ordered}
-use Rattle.zn_model.specs.declared.answers.MountError.{MountError}
-use Rattle.zn_model.specs.declared.files.FileZones.{FileZones}
 use Rattle.zn_model.specs.declared.files.MountOpts.{MountOpts}
 use Rattle.zn_model.specs.declared.files.Shown.{Shown}
 use Rattle.zn_model.specs.SuperBlock.{SuperBlock}
 use Rattle.zn_model.specs.ZoneFiles.{Layout, layout_of, files_of}
 use Rattle.zn_model.specs.ShownStates.{infos_of, worst, holds, showing, mounted_by, mounted_shown}
 use Rattle.zn_model.specs.Looks.{all_infos, report_all}
-use Rattle.zn_model.specs.Mounting.{MountAnswer, fresh_handles, fresh_inodes, fresh_queue, fresh_volume, mount_call}
+use Rattle.zn_model.specs.Mounting.{MountAnswer, fresh_handles, fresh_inodes, fresh_queue, fresh_volume}
 use Rattle.zn_model.specs.Volume.{Inodes, Handles, Volume, file_at, shown_at, no_file}
 use Rattle.zn_inode.specs.Mounts.{AreInside, mounted_inodes}
 use Rattle.zn_inode.specs.Sizes.{IsWithinRoom}

@@ -1,12 +1,10 @@
-use Rattle.std.proofs.Common.{◌≡◌, Bool, length, refl, sym, ap, ◌∙◌, subst}
+use Rattle.std.proofs.Common.{length, refl, sym, ap, ◌∙◌, subst}
 use Rattle.std.proofs.lemmas.Result.{err_from_is_err_and}
 use Rattle.zn_truth.specs.Limits.{IsWithinLimits}
 use Rattle.zn_truth.specs.Truth.{geometry}
-use Rattle.zn_model.specs.declared.files.MountOpts.{MountOpts}
 use Rattle.zn_model.specs.Mounting.{fresh_inodes}
 use Rattle.zn_model.specs.SuperBlock.{SuperBlock}
 use Rattle.zn_model.specs.ZoneFiles.{layout_of}
-use Rattle.zn_volume.specs.Mounts.{MountCause}
 use Rattle.zn_volume.proofs.MountCauses.{mount_caused}
 use Rattle.zn_volume.proofs.Mounted.{geometry-of, fresh_agrees}
 use Rattle.zn_volume.proofs.mounting.take_parts.Goals as goal

@@ -1,4 +1,4 @@
-use Rattle.std.proofs.Common.{◌≡◌, List, true, false, ◌∙◌, subst}
+use Rattle.std.proofs.Common.{List, true, false, ◌∙◌, subst}
 use Rattle.zn_truth.specs.declared.Kind.{Kind}
 use Rattle.zn_truth.specs.declared.Shape.{Shape}
 use Rattle.zn_truth.specs.World.{geometry_of}
