@@ -1,0 +1,4 @@
+pub mod Faults
+pub mod Harming
+pub mod Striking
+pub mod Turning

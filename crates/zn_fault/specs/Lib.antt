@@ -1,0 +1,3 @@
+pub mod FaultState
+pub mod Strikes
+pub mod Turns

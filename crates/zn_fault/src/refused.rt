@@ -1,0 +1,55 @@
+// What refuses a fault or a turn of condition.
+ghost use Rattle.std.specs.Prelude.{◌≡◌, nat_le};
+ghost use Rattle.zn_truth.specs.Inject.{is_bad_fault, is_misplaced, manages, may_keep, severity};
+
+use crate::asked::is_zone;
+use zn_device::Zoned;
+use zn_truth::{Command, Cond, FaultSpec, Kind, ZoneNo};
+
+/// Whether the command manages a zone, which a conventional one doesn't take.
+fn manages(command: Command) -> bool
+    ensures { result ≡ manages command }
+{
+    match command {
+        Command::Reset | Command::Finish | Command::Open | Command::Close => true,
+        Command::Read | Command::Write | Command::Flush | Command::Report => false,
+    }
+}
+
+/// Whether the command may be done in part.
+fn may_keep(command: Command) -> bool
+    ensures { result ≡ may_keep command }
+{
+    match command {
+        Command::Write | Command::Flush => true,
+        Command::Read
+        | Command::Reset
+        | Command::Finish
+        | Command::Open
+        | Command::Close
+        | Command::Report => false,
+    }
+}
+
+/// Whether a command of this kind can't come on this zone.
+#[tactic(auto, using(zn_truth::proofs::Issuing::kind_is))]
+fn is_misplaced<D: Zoned>(dev: &D, z: ZoneNo, command: Command) -> bool
+    ensures { result ≡ is_misplaced (D.state dev.now).world.truth z.0 command }
+{
+    !is_zone(dev, z) || (manages(command) && dev.kind(z) == Kind::Conventional)
+}
+
+/// Whether the fault is on a command that can't come on its zone, or keeps blocks of one that isn't done in part.
+pub fn is_bad_fault<D: Zoned>(dev: &D, fault: &FaultSpec) -> bool
+    ensures { result ≡ is_bad_fault (D.state dev.now).world.truth fault.now }
+{
+    is_misplaced(dev, fault.zone, fault.command)
+        || (fault.keep.is_some() && !may_keep(fault.command))
+}
+
+/// Whether a zone of the one condition can't turn to the other.
+pub fn is_no_worse(from: Cond, to: Cond) -> bool
+    ensures { result ≡ nat_le (severity to) (severity from) }
+{
+    to <= from
+}
