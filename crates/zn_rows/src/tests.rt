@@ -1,3 +1,7 @@
+mod faults;
+mod policies;
+mod recovery;
+
 use std::alloc::{AllocError, Global};
 use std::process::Abort;
 use std::test::Fail;
@@ -75,6 +79,18 @@ fn runs<R: Abort + Copy>(rt: R, alloc: Global, case: Case) -> Result<(), Fail> {
     )
 }
 
+/// Carries out a script to its end.
+fn carried_out<R: Abort + Copy>(
+    rt: R,
+    alloc: Global,
+    words: &str,
+    script: &str,
+    written: &str,
+) -> Result<(), Fail> {
+    let mut source = source_of(alloc, script.as_bytes(), &[])?;
+    ends_so(rt, alloc, words, &mut source, Status::Done, written)
+}
+
 /// A write, a read of what it wrote, and the size after it.
 fn first_row() -> Case {
     done(
@@ -148,7 +164,11 @@ fn zones_are_opened_explicitly(rt: HostRuntime) -> Result<(), Fail> {
             "close 0\numount\nmount explicit-open\nattr\nopen 0 seq/0 rw\nattr\ntruncate 0 16384\nattr\ntruncate 0 0\nattr\nclose 0\nattr\n",
             "ok\nok\nok\nok max_wro_seq_files=0 nr_wro_seq_files=0 max_active_seq_files=0 nr_active_seq_files=0\nok\nok max_wro_seq_files=0 nr_wro_seq_files=1 max_active_seq_files=0 nr_active_seq_files=1\nok\nok max_wro_seq_files=0 nr_wro_seq_files=1 max_active_seq_files=0 nr_active_seq_files=0\nok\nok max_wro_seq_files=0 nr_wro_seq_files=1 max_active_seq_files=0 nr_active_seq_files=0\nok\nok max_wro_seq_files=0 nr_wro_seq_files=0 max_active_seq_files=0 nr_active_seq_files=0\n",
         ),
-        done("scratch 1 0 2", "attr\numount\nattr\n", "ok max_wro_seq_files=0 nr_wro_seq_files=0 max_active_seq_files=0 nr_active_seq_files=0\nok\nerror not-mounted\n"),
+        done(
+            "scratch 1 0 2",
+            "attr\numount\nattr\n",
+            "ok max_wro_seq_files=0 nr_wro_seq_files=0 max_active_seq_files=0 nr_active_seq_files=0\nok\nerror not-mounted\n",
+        ),
     ] {
         runs(rt, rt.alloc(), case)?;
     }
