@@ -2,8 +2,8 @@
 ghost use Rattle.zn_truth.proofs.Hushed.{sound_hushed, within_hushed};
 ghost use Rattle.zn_device.specs.Quiet.{hushed_state};
 
-use crate::Zoned;
-use zn_truth::{DevError, Kind, Shape, ZoneInfo, ZoneNo, ZoneOp};
+use crate::{Injects, Zoned};
+use zn_truth::{Cond, DevError, FaultSpec, InjectError, Kind, Shape, ZoneInfo, ZoneNo, ZoneOp};
 
 /// A device that does what the one within does, and doesn't tell its bytes.
 #[derive(Drop)]
@@ -61,5 +61,16 @@ impl<D: Zoned + Drop> Zoned for Quiet<D> {
 
     fn breaks(&self) -> u64 {
         self.dev.breaks()
+    }
+}
+
+#[tactic(auto, using(crate::proofs::Quieted::waits_hushed, crate::proofs::Quieted::waiting_hushed, crate::proofs::Quieted::turning_hushed))]
+impl<D: Injects + Drop> Injects for Quiet<D> {
+    fn inject(&mut self, fault: FaultSpec) -> Result<(), InjectError> {
+        self.dev.inject(fault)
+    }
+
+    fn turn(&mut self, z: ZoneNo, to: Cond) -> Result<(), InjectError> {
+        self.dev.turn(z, to)
     }
 }

@@ -2,24 +2,26 @@
 use Rattle.std.proofs.Common.{◌≡◌, ℕ, ◌≤◌, List, [], ◌∷◌, ◌++◌, map, Option, Some, None, Result, Ok, Err, refl, ap, ◌∙◌, subst, arith, append-nil}
 use Rattle.std.specs.List.{All}
 use Rattle.std.specs.List.Sorted.{IsPermutation}
-use Rattle.std.specs.Option.{option_to_list, IfSome, unwrap_or}
+use Rattle.std.specs.Option.{option_map, option_to_list, IfSome, unwrap_or}
 use Rattle.std.proofs.lemmas.List.Sorted.{All-permutation}
 use Rattle.std.specs.Fmt.{decimal}
 use Rattle.zn_lines.specs.declared.limits.TheConstants.{LAST_NUMBER}
+use Rattle.zn_truth.specs.declared.Command.{Command}
+use Rattle.zn_truth.specs.declared.Cond.{Cond}
 use Rattle.zn_model.specs.declared.limits.TheConstants.{MOST_BYTES}
 use Rattle.zn_model.specs.declared.handles.Mode.{Mode}
 use Rattle.zn_base.specs.Runs.{Run, runs_text}
 use Rattle.zn_lines.specs.declared.words.Change.{Change}
 use Rattle.zn_lines.specs.declared.words.Change.TheVariants.{Create, Remove, Rename, Chmod, Chown}
 use Rattle.zn_lines.specs.declared.words.Verb.{Verb}
-use Rattle.zn_lines.specs.declared.words.Verb.TheVariants.{Mkfs as Formatting, Mount as Mounting, Umount as Unmounting, Open, Close, Size, Read, Write, Truncate, Sync, Stat, List as Listing, Attr, Create as Creating, Remove as Removing, Rename as Renaming, Chmod as ChangingMode, Chown as ChangingOwner}
-use Rattle.zn_lines.specs.Lines.{FormatWords, FormatItem, plain_format, items_of, Line, Mkfs, Mount, Umount, OpenFile, CloseFile, SizeOf, ReadFrom, WriteTo, TruncateTo, SyncFile, StatOf, ListOf, Attributes, Changes}
+use Rattle.zn_lines.specs.declared.words.Verb.TheVariants.{Mkfs as Formatting, Mount as Mounting, Umount as Unmounting, Open, Close, Size, Read, Write, Truncate, Sync, Stat, List as Listing, Attr, Create as Creating, Remove as Removing, Rename as Renaming, Chmod as ChangingMode, Chown as ChangingOwner, Fault, Turn}
+use Rattle.zn_lines.specs.Lines.{FormatWords, FormatItem, plain_format, items_of, Line, Mkfs, Mount, Umount, OpenFile, CloseFile, SizeOf, ReadFrom, WriteTo, TruncateTo, SyncFile, StatOf, ListOf, Attributes, Changes, FaultOn, TurnTo}
 use Rattle.zn_base.specs.Decimals.{number_in}
 use Rattle.zn_lines.specs.Words.{Left, ◌>>=◌, optional, no_more}
-use Rattle.zn_lines.specs.Grammar.{last_offset, last_u32, path_of, items_on, uid_key, gid_key, user_after, who_named, mkfs_line, mount_line, umount_line, open_line, close_line, size_line, read_line, write_line, truncate_line, sync_line, stat_line, list_line, attr_line, path_change, rename_line, chmod_line, chown_line, line_with, verb_name, mode_name}
+use Rattle.zn_lines.specs.Grammar.{last_offset, last_zone, last_u32, path_of, items_on, uid_key, gid_key, user_after, who_named, mkfs_line, mount_line, umount_line, open_line, close_line, size_line, read_line, write_line, truncate_line, sync_line, stat_line, list_line, attr_line, path_change, rename_line, chmod_line, chown_line, fault_line, turn_line, line_with, verb_name, mode_name, kind_name, worse_name}
 use Rattle.zn_lines.specs.LineTexts.{IsPath, item_word, IsItem, user_words, who_words, line_words, IsReadable, IsChange, AreWords}
 use Rattle.zn_lines.proofs.LineWords.{IsWordKind, IsReadFrom, next-written, next-known, optional-written, optional-left_out, optional-known, words_if, no_more-written, no_more-known}
-use Rattle.zn_lines.proofs.WordKinds.{numbers, paths, modes}
+use Rattle.zn_lines.proofs.WordKinds.{numbers, paths, modes, kinds, worse_conditions}
 use Rattle.zn_lines.proofs.ItemWords.{u32s, uids, gids, gid-no_uid, items-lack, format-read, format-known}
 use Rattle.zn_lines.proofs.DataWords.{data_words}
 
@@ -30,6 +32,9 @@ handles = numbers LAST_NUMBER (omega arith)
 
 offsets : IsWordKind (number_in last_offset) decimal (λ n. n ≤ last_offset)
 offsets = numbers last_offset (omega arith)
+
+zones : IsWordKind (number_in last_zone) decimal (λ n. n ≤ last_zone)
+zones = numbers last_zone (omega arith)
 
 lengths : IsWordKind (number_in MOST_BYTES) decimal (λ n. n ≤ MOST_BYTES)
 lengths = numbers MOST_BYTES (omega arith)
@@ -360,6 +365,44 @@ chown-known left line is =
     let ended = no_more-known (Changes Chown) line gid.rest gid.follow in
     subst (SpellsWith ChangingOwner left) ended.1 (path.x, uid.x, gid.x, path.fits, uid.fits, gid.fits, cc (path.words, uid.words, gid.words, ended.0))
 
+-- ---- fault NUM KIND, fault NUM KIND U32
+
+pub fault-written : (zone : ℕ) (command : Command) (keep : Option ℕ) → IsReadable (FaultOn zone command keep) → IsReadFrom (decimal zone ∷ kind_name command ∷ option_to_list (option_map decimal keep)) fault_line (FaultOn zone command keep)
+unfolding fault_line IsReadable
+fault-written zone command None fits =
+    next-written zones zone fits.0 (next-written kinds command tt (optional-left_out (number_in last_u32) [] tt (no_more-written _)))
+fault-written zone command (Some blocks) fits =
+    next-written zones zone fits.0 (next-written kinds command tt (optional-written u32s blocks fits.1 (no_more-written _)))
+
+-- the words of blocks that are kept
+keep_words : (keep : Option ℕ) → words_if decimal keep ≡ option_to_list (option_map decimal keep)
+keep_words None = refl
+keep_words (Some blocks) = refl
+
+fault-known : (left : Left) (line : Line) → fault_line left ≡ Ok line → SpellsWith Fault left line
+unfolding fault_line line_words AreWords IsReadable
+fault-known left line is =
+    let zone = next-known zones left _ line is in
+    let command = next-known kinds zone.rest _ line zone.follow in
+    let keep = optional-known u32s command.rest _ line command.follow in
+    let ended = no_more-known (FaultOn zone.x command.x keep.x) line keep.rest keep.follow in
+    let last : command.rest.words ≡ option_to_list (option_map decimal keep.x) = keep.words ∙ ap (λ ws. words_if decimal keep.x ++ ws) ended.0 ∙ append-nil _ ∙ keep_words keep.x in
+    subst (SpellsWith Fault left) ended.1 (cc (zone.words, command.words, last), (zone.fits, keep.fits))
+
+-- ---- turn NUM ro, turn NUM off
+
+pub turn-written : (zone : ℕ) (to : Cond) → IsReadable (TurnTo zone to) → IsReadFrom (decimal zone ∷ worse_name to ∷ []) turn_line (TurnTo zone to)
+unfolding turn_line IsReadable
+turn-written zone to fits = next-written zones zone fits.0 (next-written worse_conditions to fits.1 (no_more-written _))
+
+turn-known : (left : Left) (line : Line) → turn_line left ≡ Ok line → SpellsWith Turn left line
+unfolding turn_line line_words AreWords IsReadable
+turn-known left line is =
+    let zone = next-known zones left _ line is in
+    let to = next-known worse_conditions zone.rest _ line zone.follow in
+    let ended = no_more-known (TurnTo zone.x to.x) line to.rest to.follow in
+    subst (SpellsWith Turn left) ended.1 (cc (zone.words, to.words, ended.0), (zone.fits, to.fits))
+
 -- ---- what follows a verb
 
 -- what is read behind a verb spells its line
@@ -382,3 +425,5 @@ line_with-known Removing left line is = remove-known left line is
 line_with-known Renaming left line is = rename-known left line is
 line_with-known ChangingMode left line is = chmod-known left line is
 line_with-known ChangingOwner left line is = chown-known left line is
+line_with-known Fault left line is = fault-known left line is
+line_with-known Turn left line is = turn-known left line is

@@ -6,12 +6,16 @@ use Rattle.std.proofs.lemmas.Bool.{and_parts, and_from, cond-true, leb-true, le-
 use Rattle.std.proofs.lemmas.List.Elements.{All-weaker}
 use Rattle.std.proofs.lemmas.List.Sums.{AllPass-from_list_all, list_all-from_AllPass}
 use Rattle.std.proofs.lemmas.Option.{same_Some, none-some}
+use Rattle.zn_truth.specs.declared.Command.{Command}
+use Rattle.zn_truth.specs.declared.Command.TheVariants.{Read as Reading, Write as Writing, Reset as Resetting, Finish as Finishing, Flush as Flushing, Open as Opening, Close as Closing, Report as Reporting}
+use Rattle.zn_truth.specs.declared.Cond.{Cond}
+use Rattle.zn_truth.specs.declared.Cond.TheVariants.{Good, ReadOnly, Offline}
 use Rattle.zn_model.specs.declared.handles.Mode.{Mode}
 use Rattle.zn_base.specs.Decimals.{number_in}
 use Rattle.zn_lines.specs.declared.words.Verb.{Verb}
-use Rattle.zn_lines.specs.declared.words.Verb.TheVariants.{Mkfs as Formatting, Mount as Mounting, Umount as Unmounting, Open, Close, Size, Read, Write, Truncate, Sync, Stat, List as Listing, Attr, Create as Creating, Remove as Removing, Rename as Renaming, Chmod as ChangingMode, Chown as ChangingOwner}
-use Rattle.zn_lines.specs.Grammar.{is_printable, path_of, mode_in, verb_of, verb_name, mode_name}
-use Rattle.zn_lines.specs.LineTexts.{IsMode, IsPath}
+use Rattle.zn_lines.specs.declared.words.Verb.TheVariants.{Mkfs as Formatting, Mount as Mounting, Umount as Unmounting, Open, Close, Size, Read, Write, Truncate, Sync, Stat, List as Listing, Attr, Create as Creating, Remove as Removing, Rename as Renaming, Chmod as ChangingMode, Chown as ChangingOwner, Fault, Turn}
+use Rattle.zn_lines.specs.Grammar.{is_printable, path_of, mode_in, kind_in, worse_in, verb_of, verb_name, mode_name, kind_name, worse_name}
+use Rattle.zn_lines.specs.LineTexts.{IsMode, IsWorse, IsPath}
 use Rattle.zn_lines.proofs.Separated.{decimal-lacks, lacks, passing-lack}
 use Rattle.zn_base.proofs.DecimalLaws.{number_in-decimal, decimal-number_in, cond_taken}
 use Rattle.zn_lines.proofs.LineWords.{IsWordKind, chosen}
@@ -92,6 +96,76 @@ modes = record {
   whole = each_mode (λ mode. lacks 32 (mode_name mode) ≡ true) refl refl refl;
 }
 
+-- ---- kinds of commands
+
+kind-written : (command : Command) → kind_in (kind_name command) ≡ Some command
+unfolding kind_in
+kind-written Reading = refl
+kind-written Writing = refl
+kind-written Resetting = refl
+kind-written Finishing = refl
+kind-written Flushing = refl
+kind-written Opening = refl
+kind-written Closing = refl
+kind-written Reporting = refl
+
+kind-lacks : (command : Command) → lacks 32 (kind_name command) ≡ true
+kind-lacks Reading = refl
+kind-lacks Writing = refl
+kind-lacks Resetting = refl
+kind-lacks Finishing = refl
+kind-lacks Flushing = refl
+kind-lacks Opening = refl
+kind-lacks Closing = refl
+kind-lacks Reporting = refl
+
+kind-known : (word : List ℕ) (command : Command) → kind_in word ≡ Some command → word ≡ kind_name command
+unfolding kind_in
+kind-known word command is =
+    let P : Command → Type 0 = λ command. word ≡ kind_name command in
+    chosen P word _ Reading command _ is (λ e. e) (λ is.
+    chosen P word _ Writing command _ is (λ e. e) (λ is.
+    chosen P word _ Resetting command _ is (λ e. e) (λ is.
+    chosen P word _ Finishing command _ is (λ e. e) (λ is.
+    chosen P word _ Flushing command _ is (λ e. e) (λ is.
+    chosen P word _ Opening command _ is (λ e. e) (λ is.
+    chosen P word _ Closing command _ is (λ e. e) (λ is.
+    chosen P word _ Reporting command _ is (λ e. e) (λ is. absurd (none-some command is)))))))))
+
+pub kinds : IsWordKind kind_in kind_name (λ command. Unit {0})
+kinds = record {
+  written = λ command fits. kind-written command;
+  known = λ word command is. (kind-known word command is, tt);
+  whole = λ command fits. kind-lacks command;
+}
+
+-- ---- conditions that a zone turns to
+
+worse-written : (to : Cond) → IsWorse to → worse_in (worse_name to) ≡ Some to
+unfolding worse_in
+worse-written Good fits = absurd fits
+worse-written ReadOnly fits = refl
+worse-written Offline fits = refl
+
+worse-lacks : (to : Cond) → lacks 32 (worse_name to) ≡ true
+worse-lacks Good = refl
+worse-lacks ReadOnly = refl
+worse-lacks Offline = refl
+
+worse-known : (word : List ℕ) (to : Cond) → worse_in word ≡ Some to → (word ≡ worse_name to) × IsWorse to
+unfolding worse_in
+worse-known word to is =
+    let P : Cond → Type 0 = λ to. (word ≡ worse_name to) × IsWorse to in
+    chosen P word _ ReadOnly to _ is (λ e. (e, tt)) (λ is.
+    chosen P word _ Offline to _ is (λ e. (e, tt)) (λ is. absurd (none-some to is)))
+
+pub worse_conditions : IsWordKind worse_in worse_name IsWorse
+worse_conditions = record {
+  written = worse-written;
+  known = worse-known;
+  whole = λ to fits. worse-lacks to;
+}
+
 -- ---- verbs
 
 verb-written : (verb : Verb) → verb_of (verb_name verb) ≡ Some verb
@@ -114,6 +188,8 @@ verb-written Removing = refl
 verb-written Renaming = refl
 verb-written ChangingMode = refl
 verb-written ChangingOwner = refl
+verb-written Fault = refl
+verb-written Turn = refl
 
 verb-lacks : (verb : Verb) → lacks 32 (verb_name verb) ≡ true
 verb-lacks Formatting = refl
@@ -134,6 +210,8 @@ verb-lacks Removing = refl
 verb-lacks Renaming = refl
 verb-lacks ChangingMode = refl
 verb-lacks ChangingOwner = refl
+verb-lacks Fault = refl
+verb-lacks Turn = refl
 
 verb-known : (word : List ℕ) (verb : Verb) → verb_of word ≡ Some verb → word ≡ verb_name verb
 unfolding verb_of
@@ -156,7 +234,9 @@ verb-known word verb is =
     chosen P word _ Removing verb _ is (λ e. e) (λ is.
     chosen P word _ Renaming verb _ is (λ e. e) (λ is.
     chosen P word _ ChangingMode verb _ is (λ e. e) (λ is.
-    chosen P word _ ChangingOwner verb _ is (λ e. e) (λ is. absurd (none-some verb is)))))))))))))))))))
+    chosen P word _ ChangingOwner verb _ is (λ e. e) (λ is.
+    chosen P word _ Fault verb _ is (λ e. e) (λ is.
+    chosen P word _ Turn verb _ is (λ e. e) (λ is. absurd (none-some verb is)))))))))))))))))))))
 
 pub verbs : IsWordKind verb_of verb_name (λ verb. Unit {0})
 verbs = record {

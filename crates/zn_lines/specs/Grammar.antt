@@ -1,14 +1,19 @@
 -- The lines of the grammar: each form is a list of words. (own)
 --
 -- So far the lines that format, mount and unmount are read, those that open, close, read, write, truncate, sync and
--- look at files, the one that tells the volume's attributes, and the changes that are never allowed. The other lines
--- have no form yet: they are refused, at the column of the word that does not fit so far.
+-- look at files, the one that tells the volume's attributes, the changes that are never allowed, and those that let a
+-- device fail and turn its zones. The other lines have no form yet: they are refused, at the column of the word that
+-- does not fit so far.
 use Rattle.std.specs.Prelude.{ℕ, ◌+◌, ◌-◌, ◌*◌, Bool, true, ◌&&◌, ◌||◌, ◌==◌, List, [], ◌∷◌, length, take, drop, Option, Some, None, is_some, unwrap_or, option_and_then, Result, Ok, Err, codes, nat_le, if◌then◌else◌}
 use Rattle.std.specs.List.{find, list_all, slice_split}
 use Rattle.std.specs.Option.{option_map, option_or}
 use Rattle.std.specs.Str.{bytes_eq}
 use Rattle.zn_lines.specs.declared.limits.TheConstants.{LAST_NUMBER}
 use Rattle.zn_model.specs.declared.limits.TheConstants.{MOST_BYTES}
+use Rattle.zn_truth.specs.declared.Command.{Command}
+use Rattle.zn_truth.specs.declared.Command.TheVariants.{Read as Reading, Write as Writing, Reset as Resetting, Finish as Finishing, Flush as Flushing, Open as Opening, Close as Closing, Report as Reporting}
+use Rattle.zn_truth.specs.declared.Cond.{Cond}
+use Rattle.zn_truth.specs.declared.Cond.TheVariants.{Good, ReadOnly, Offline}
 use Rattle.zn_base.specs.Decimals.{number_in}
 use Rattle.zn_base.specs.Runs.{Run}
 use Rattle.zn_base.specs.Texts.{◌⧺◌}
@@ -18,8 +23,8 @@ use Rattle.zn_model.specs.Access.{reads, writes}
 use Rattle.zn_lines.specs.declared.words.Change.{Change}
 use Rattle.zn_lines.specs.declared.words.Change.TheVariants.{Create, Remove, Rename, Chmod, Chown}
 use Rattle.zn_lines.specs.declared.words.Verb.{Verb}
-use Rattle.zn_lines.specs.declared.words.Verb.TheVariants.{Mkfs as Formatting, Mount as Mounting, Umount as Unmounting, Open, Close, Size, Read, Write, Truncate, Sync, Stat, List as Listing, Attr, Create as Creating, Remove as Removing, Rename as Renaming, Chmod as ChangingMode, Chown as ChangingOwner}
-use Rattle.zn_lines.specs.Lines.{FormatWords, FormatItem, Force, Label, Uuid, Features, plain_format, Line, Mkfs, Mount, Umount, OpenFile, CloseFile, SizeOf, ReadFrom, WriteTo, TruncateTo, SyncFile, StatOf, ListOf, Attributes, Changes}
+use Rattle.zn_lines.specs.declared.words.Verb.TheVariants.{Mkfs as Formatting, Mount as Mounting, Umount as Unmounting, Open, Close, Size, Read, Write, Truncate, Sync, Stat, List as Listing, Attr, Create as Creating, Remove as Removing, Rename as Renaming, Chmod as ChangingMode, Chown as ChangingOwner, Fault, Turn}
+use Rattle.zn_lines.specs.Lines.{FormatWords, FormatItem, Force, Label, Uuid, Features, plain_format, Line, Mkfs, Mount, Umount, OpenFile, CloseFile, SizeOf, ReadFrom, WriteTo, TruncateTo, SyncFile, StatOf, ListOf, Attributes, Changes, FaultOn, TurnTo}
 use Rattle.zn_lines.specs.Words.{Left, ◌>>=◌, next, optional, no_more, words_of}
 
 -- ---- limits
@@ -28,7 +33,11 @@ use Rattle.zn_lines.specs.Words.{Left, ◌>>=◌, next, optional, no_more, words
 abbrev pub last_offset : ℕ
 last_offset = 18446744073709551615
 
--- the greatest mode, user and group: the greatest number of 32 bits
+-- the greatest zone that a line can name, whether or not a device has it
+abbrev pub last_zone : ℕ
+last_zone = last_offset
+
+-- the greatest mode, user, group and number of blocks that are kept: the greatest number of 32 bits
 abbrev pub last_u32 : ℕ
 last_u32 = 4294967295
 
@@ -100,6 +109,41 @@ all_modes = record { 0 = 1 } ∷ record { 0 = 2 } ∷ record { 0 = 3 } ∷ []
 -- MODE: each by its word; any other word is none
 unfoldable pub mode_in : List ℕ → Option Mode
 mode_in word = find (λ mode. bytes_eq word (mode_name mode)) all_modes
+
+-- ---- commands and conditions
+
+-- the word of a kind of command
+abbrev pub kind_name : Command → List ℕ
+kind_name Reading = codes "read"
+kind_name Writing = codes "write"
+kind_name Resetting = codes "reset"
+kind_name Finishing = codes "finish"
+kind_name Flushing = codes "flush"
+kind_name Opening = codes "open"
+kind_name Closing = codes "close"
+kind_name Reporting = codes "report"
+
+-- all kinds of commands
+abbrev pub all_kinds : List Command
+all_kinds = Reading ∷ Writing ∷ Resetting ∷ Finishing ∷ Flushing ∷ Opening ∷ Closing ∷ Reporting ∷ []
+
+-- KIND: each by its word; any other word is none
+unfoldable pub kind_in : List ℕ → Option Command
+kind_in word = find (λ command. bytes_eq word (kind_name command)) all_kinds
+
+-- the word of a condition that a zone turns to; none turns to good, which has no word
+abbrev pub worse_name : Cond → List ℕ
+worse_name Good = []
+worse_name ReadOnly = codes "ro"
+worse_name Offline = codes "off"
+
+-- the conditions that a zone turns to
+abbrev pub worse_conds : List Cond
+worse_conds = ReadOnly ∷ Offline ∷ []
+
+-- ro and off: each by its word; any other word is none
+unfoldable pub worse_in : List ℕ → Option Cond
+worse_in word = find (λ to. bytes_eq word (worse_name to)) worse_conds
 
 -- ---- words that begin with a key
 
@@ -205,12 +249,14 @@ verb_name Removing = codes "remove"
 verb_name Renaming = codes "rename"
 verb_name ChangingMode = codes "chmod"
 verb_name ChangingOwner = codes "chown"
+verb_name Fault = codes "fault"
+verb_name Turn = codes "turn"
 
 -- all verbs so far
 abbrev pub all_verbs : List Verb
 all_verbs =
     Formatting ∷ Mounting ∷ Unmounting ∷ Open ∷ Close ∷ Size ∷ Read ∷ Write ∷ Truncate ∷ Sync ∷ Stat ∷ Listing ∷ Attr
-    ∷ Creating ∷ Removing ∷ Renaming ∷ ChangingMode ∷ ChangingOwner ∷ []
+    ∷ Creating ∷ Removing ∷ Renaming ∷ ChangingMode ∷ ChangingOwner ∷ Fault ∷ Turn ∷ []
 
 -- each verb by its word; any other word is none
 unfoldable pub verb_of : List ℕ → Option Verb
@@ -327,6 +373,21 @@ chown_line left = do
   gid ← next (number_in last_u32) uid.1
   no_more (Changes Chown) gid.1
 
+-- fault NUM KIND, and then optionally U32
+unfoldable pub fault_line : Left → Result Line ℕ
+fault_line left = do
+  zone ← next (number_in last_zone) left
+  command ← next kind_in zone.1
+  keep ← optional (number_in last_u32) command.1
+  no_more (FaultOn zone.0 command.0 keep.0) keep.1
+
+-- turn NUM ro, turn NUM off
+unfoldable pub turn_line : Left → Result Line ℕ
+turn_line left = do
+  zone ← next (number_in last_zone) left
+  to ← next worse_in zone.1
+  no_more (TurnTo zone.0 to.0) to.1
+
 -- what stands behind a verb is read by the form of that verb
 abbrev pub line_with : Verb → Left → Result Line ℕ
 line_with Formatting left = mkfs_line left
@@ -347,6 +408,8 @@ line_with Removing left = path_change Remove left
 line_with Renaming left = rename_line left
 line_with ChangingMode left = chmod_line left
 line_with ChangingOwner left = chown_line left
+line_with Fault left = fault_line left
+line_with Turn left = turn_line left
 
 -- the line that words are, or the column of the first word that does not fit
 unfoldable pub line_of : List ℕ → Result Line ℕ

@@ -1,10 +1,12 @@
 -- Lines and numbers, and what they are read as. (own)
 use Rattle.std.specs.Prelude.{◌≡◌, true, [], ◌∷◌, Some, None, Ok, Err, codes}
+use Rattle.zn_truth.specs.declared.Command.TheVariants.{Read as Reading, Write as Writing, Reset as Resetting, Flush as Flushing, Report as Reporting}
+use Rattle.zn_truth.specs.declared.Cond.TheVariants.{ReadOnly, Offline}
 use Rattle.zn_model.specs.declared.limits.TheConstants.{MOST_BYTES}
 use Rattle.zn_lines.specs.declared.words.Change.TheVariants.{Create, Rename, Chmod, Chown}
-use Rattle.zn_lines.specs.Lines.{FormatWords, plain_format, Line, Mkfs, Mount, Umount, OpenFile, CloseFile, SizeOf, ReadFrom, WriteTo, TruncateTo, SyncFile, StatOf, ListOf, Attributes, Changes}
+use Rattle.zn_lines.specs.Lines.{FormatWords, plain_format, Line, Mkfs, Mount, Umount, OpenFile, CloseFile, SizeOf, ReadFrom, WriteTo, TruncateTo, SyncFile, StatOf, ListOf, Attributes, Changes, FaultOn, TurnTo}
 use Rattle.zn_base.specs.Decimals.{number_in}
-use Rattle.zn_lines.specs.Grammar.{last_offset, last_u32, who_named, root, line_of, reading_of}
+use Rattle.zn_lines.specs.Grammar.{last_offset, last_zone, last_u32, who_named, root, line_of, reading_of}
 use Rattle.zn_lines.specs.LineTexts.{line_text}
 
 -- ---- lines
@@ -84,6 +86,16 @@ pub record UsersRead : Type 0 where
   pub group : line_of (codes "open 0 seq/0 rw gid=7") ≡ Ok open_as_group
   pub zeros : line_of (codes "open 0 seq/0 rw uid=0 gid=0") ≡ Ok open_both
 
+-- Faults and turns. Whether the device has the zone, and takes the fault, is no matter of the grammar.
+pub record FaultsRead : Type 0 where
+  pub fault : line_of (codes "fault 1 write") ≡ Ok (FaultOn 1 Writing None)
+  pub part : line_of (codes "fault 1 write 0") ≡ Ok (FaultOn 1 Writing (Some 0))
+  pub part_of_a_read : line_of (codes "fault 0 read 1") ≡ Ok (FaultOn 0 Reading (Some 1))
+  pub last : line_of (codes "fault 18446744073709551615 flush 4294967295") ≡ Ok (FaultOn last_zone Flushing (Some last_u32))
+  pub report : line_of (codes "fault 2 report") ≡ Ok (FaultOn 2 Reporting None)
+  pub turn : line_of (codes "turn 1 ro") ≡ Ok (TurnTo 1 ReadOnly)
+  pub turn_last : line_of (codes "turn 18446744073709551615 off") ≡ Ok (TurnTo last_zone Offline)
+
 -- the plain texts of lines
 pub record LinesWritten : Type 0 where
   pub format : line_text (Mkfs all_asked) ≡ codes "mkfs force label=data uuid=u features=aggr_cnv"
@@ -99,6 +111,9 @@ pub record LinesWritten : Type 0 where
   pub truncate_last : line_text truncate_last ≡ codes "truncate 2047 18446744073709551615"
   pub sync : line_text (SyncFile 2047) ≡ codes "sync 2047"
   pub attr : line_text Attributes ≡ codes "attr"
+  pub fault : line_text (FaultOn 1 Resetting None) ≡ codes "fault 1 reset"
+  pub fault_part : line_text (FaultOn 1 Flushing (Some 0)) ≡ codes "fault 1 flush 0"
+  pub turn : line_text (TurnTo 2 Offline) ≡ codes "turn 2 off"
 
 -- ---- lines that are refused, each at the column of the first word that does not fit
 
@@ -155,6 +170,23 @@ pub record UsersRefused : Type 0 where
   pub empty_group : line_of (codes "open 0 seq/0 r uid=1 gid=") ≡ Err 22
   pub missing_mode : line_of (codes "open 0 seq/0 uid=1") ≡ Err 14
   pub one_too_many : line_of (codes "open 0 seq/0 r uid=1 gid=1 x") ≡ Err 28
+
+-- faults and turns: words that are missing, one too many, or not of their form; a last word of a fault that is no
+-- number is one too many
+pub record FaultsRefused : Type 0 where
+  pub missing_zone : line_of (codes "fault") ≡ Err 6
+  pub zone_too_large : line_of (codes "fault 18446744073709551616 read") ≡ Err 7
+  pub missing_kind : line_of (codes "fault 1") ≡ Err 8
+  pub no_kind : line_of (codes "fault 1 append") ≡ Err 9
+  pub blank_behind : line_of (codes "fault 1 write ") ≡ Err 15
+  pub no_number : line_of (codes "fault 1 write all") ≡ Err 15
+  pub number_too_large : line_of (codes "fault 1 write 4294967296") ≡ Err 15
+  pub one_too_many : line_of (codes "fault 1 write 1 2") ≡ Err 17
+  pub missing_turned_zone : line_of (codes "turn") ≡ Err 5
+  pub turned_zone_too_large : line_of (codes "turn 18446744073709551616 ro") ≡ Err 6
+  pub missing_condition : line_of (codes "turn 1") ≡ Err 7
+  pub turned_to_good : line_of (codes "turn 1 good") ≡ Err 8
+  pub word_behind_turn : line_of (codes "turn 1 ro off") ≡ Err 11
 
 -- faulty data of a write: the column is where the data begins, whichever part is at fault
 pub record DataRefused : Type 0 where

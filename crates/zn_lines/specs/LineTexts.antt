@@ -2,18 +2,20 @@
 use Rattle.std.specs.Prelude.{◌≡◌, ℕ, ◌<◌, ◌≤◌, ◌==◌, List, [], ◌∷◌, ◌++◌, map, length, IfSome, Option, Some, None, if◌then◌else◌}
 use Rattle.std.specs.List.{All, join_with_byte}
 use Rattle.std.specs.List.Sorted.{IsPermutation}
-use Rattle.std.specs.Option.{option_to_list}
+use Rattle.std.specs.Option.{option_map, option_to_list}
 use Rattle.std.specs.Fmt.{decimal}
 use Rattle.zn_lines.specs.declared.limits.TheConstants.{LAST_NUMBER}
+use Rattle.zn_truth.specs.declared.Cond.{Cond}
+use Rattle.zn_truth.specs.declared.Cond.TheVariants.{Good, ReadOnly, Offline}
 use Rattle.zn_model.specs.declared.limits.TheConstants.{MOST_BYTES}
 use Rattle.zn_model.specs.declared.handles.Mode.{Mode}
 use Rattle.zn_base.specs.Runs.{Run, runs_text}
 use Rattle.zn_base.specs.Texts.{◌⧺◌}
 use Rattle.zn_lines.specs.declared.words.Change.{Change}
 use Rattle.zn_lines.specs.declared.words.Change.TheVariants.{Create, Remove, Rename, Chmod, Chown}
-use Rattle.zn_lines.specs.declared.words.Verb.TheVariants.{Mkfs as Formatting, Mount as Mounting, Umount as Unmounting, Open, Close, Size, Read, Write, Truncate, Sync, Stat, List as Listing, Attr, Create as Creating, Remove as Removing, Rename as Renaming, Chmod as ChangingMode, Chown as ChangingOwner}
-use Rattle.zn_lines.specs.Lines.{bytes_of, FormatItem, Force, Label, Uuid, Features, items_of, Line, Mkfs, Mount, Umount, OpenFile, CloseFile, SizeOf, ReadFrom, WriteTo, TruncateTo, SyncFile, StatOf, ListOf, Attributes, Changes}
-use Rattle.zn_lines.specs.Grammar.{last_offset, last_u32, mode_name, uid_key, gid_key, who_named, force_word, label_key, uuid_key, features_key, verb_name}
+use Rattle.zn_lines.specs.declared.words.Verb.TheVariants.{Mkfs as Formatting, Mount as Mounting, Umount as Unmounting, Open, Close, Size, Read, Write, Truncate, Sync, Stat, List as Listing, Attr, Create as Creating, Remove as Removing, Rename as Renaming, Chmod as ChangingMode, Chown as ChangingOwner, Fault, Turn}
+use Rattle.zn_lines.specs.Lines.{bytes_of, FormatItem, Force, Label, Uuid, Features, items_of, Line, Mkfs, Mount, Umount, OpenFile, CloseFile, SizeOf, ReadFrom, WriteTo, TruncateTo, SyncFile, StatOf, ListOf, Attributes, Changes, FaultOn, TurnTo}
+use Rattle.zn_lines.specs.Grammar.{last_offset, last_zone, last_u32, mode_name, kind_name, worse_name, uid_key, gid_key, who_named, force_word, label_key, uuid_key, features_key, verb_name}
 
 -- ---- words
 
@@ -28,6 +30,12 @@ IsPath path = (0 < length path) × All (λ byte. (0x21 ≤ byte) × (byte ≤ 0x
 -- one or more runs of bytes, together not too many
 abbrev pub IsData : List Run → Type 0
 IsData runs = (0 < length runs) × All (λ run. run.byte < 256) runs × (length (bytes_of runs) ≤ MOST_BYTES)
+
+-- a zone turns to read-only or offline, never to good
+abbrev pub IsWorse : Cond → Type 0
+IsWorse Good = ⊥
+IsWorse ReadOnly = Unit {0}
+IsWorse Offline = Unit {0}
 
 -- ---- items of a format, and users
 
@@ -77,6 +85,9 @@ line_words (SyncFile number) = verb_name Sync ∷ decimal number ∷ []
 line_words (StatOf path) = verb_name Stat ∷ path ∷ []
 line_words (ListOf path) = verb_name Listing ∷ path ∷ []
 line_words Attributes = verb_name Attr ∷ []
+line_words (FaultOn zone command keep) =
+    verb_name Fault ∷ decimal zone ∷ kind_name command ∷ option_to_list (option_map decimal keep)
+line_words (TurnTo zone to) = verb_name Turn ∷ decimal zone ∷ worse_name to ∷ []
 line_words _ = []
 
 -- What such a line names is within the limits. (So far a script can have no others that keep their words.)
@@ -95,6 +106,8 @@ IsReadable (SyncFile number) = number ≤ LAST_NUMBER
 IsReadable (StatOf path) = IsPath path
 IsReadable (ListOf path) = IsPath path
 IsReadable Attributes = Unit {0}
+IsReadable (FaultOn zone command keep) = (zone ≤ last_zone) × IfSome keep (λ blocks. blocks ≤ last_u32)
+IsReadable (TurnTo zone to) = (zone ≤ last_zone) × IsWorse to
 IsReadable _ = ⊥
 
 -- The words of a change, of which the line keeps only the kind, since none is allowed.

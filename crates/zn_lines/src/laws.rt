@@ -1,7 +1,7 @@
 // Laws of the lines of a script, each the contract of a function that does nothing.
 ghost use Rattle.zn_lines.specs.LineLaws.{WrittenIsRead, ReadIsWritten, TextIsRead, ReadingIsLine};
-ghost use Rattle.zn_lines.specs.LineCases.{LinesRead, FormatsRead, UsersRead, LinesWritten, VerbsRefused};
-ghost use Rattle.zn_lines.specs.LineCases.{WordsRefused, FormatsRefused, UsersRefused, DataRefused};
+ghost use Rattle.zn_lines.specs.LineCases.{LinesRead, FormatsRead, UsersRead, FaultsRead, LinesWritten, VerbsRefused};
+ghost use Rattle.zn_lines.specs.LineCases.{WordsRefused, FormatsRefused, UsersRefused, FaultsRefused, DataRefused};
 ghost use Rattle.zn_lines.specs.LineCases.{CommentsRead, NumbersRead};
 
 /// What is a text of a line is read as that line.
@@ -40,6 +40,11 @@ pub fn users_are_read()
     ensures { UsersRead }
 {}
 
+/// Some lines that let a device fail, and turn zones.
+pub fn faults_are_read()
+    ensures { FaultsRead }
+{}
+
 /// The plain texts of some lines.
 pub fn lines_are_written()
     ensures { LinesWritten }
@@ -63,6 +68,11 @@ pub fn formats_are_refused()
 /// Where lines are refused for a user or a group.
 pub fn users_are_refused()
     ensures { UsersRefused }
+{}
+
+/// Where lines are refused that let a device fail, or turn zones.
+pub fn faults_are_refused()
+    ensures { FaultsRefused }
 {}
 
 /// Where lines are refused whose data does not fit.

@@ -21,6 +21,8 @@ pub enum Verb {
     Rename,
     Chmod,
     Chown,
+    Fault,
+    Turn,
 }
 
 /// A change of names or attributes, of which none is allowed.

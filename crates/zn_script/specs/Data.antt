@@ -8,7 +8,7 @@ use Rattle.zn_lines.specs.Grammar.{part_of, part_then, data_of}
 use Rattle.zn_script.specs.Items.{IsShort}
 use Rattle.zn_script.specs.declared.data.Part.{Part}
 use Rattle.zn_script.specs.declared.Line.{Line}
-use Rattle.zn_script.specs.declared.Line.TheVariants.{Mkfs, Mount, Umount, Open, Close, Size, Read, Write, Truncate, Sync, Stat, List as Listing, Attr, Change}
+use Rattle.zn_script.specs.declared.Line.TheVariants.{Mkfs, Mount, Umount, Open, Close, Size, Read, Write, Truncate, Sync, Stat, List as Listing, Attr, Change, Fault, Turn}
 
 -- the byte of the part, as often as the part counts
 abbrev pub run_meant : Part → Run
@@ -55,3 +55,5 @@ CallFits (Stat path) = Unit {0}
 CallFits (Listing path) = Unit {0}
 CallFits Attr = Unit {0}
 CallFits (Change change) = Unit {0}
+CallFits (Fault zone command keep) = Unit {0}
+CallFits (Turn zone to) = Unit {0}

@@ -7,7 +7,7 @@ use Rattle.std.specs.Option.{option_copied}
 use Rattle.zn_script.specs.Data.{CallFits}
 use Rattle.zn_script.specs.Items.{format_meant}
 use Rattle.zn_script.specs.declared.Line.{Line}
-use Rattle.zn_script.specs.declared.Line.TheVariants.{Mkfs as MkfsLine, Mount as MountLine, Umount as UmountLine, Open as OpenLine, Close as CloseLine, Size as SizeLine, Read as ReadLine, Write as WriteLine, Truncate as TruncateLine, Sync as SyncLine, Stat as StatLine, List as ListLine, Attr as AttrLine, Change as ChangeLine}
+use Rattle.zn_script.specs.declared.Line.TheVariants.{Mkfs as MkfsLine, Mount as MountLine, Umount as UmountLine, Open as OpenLine, Close as CloseLine, Size as SizeLine, Read as ReadLine, Write as WriteLine, Truncate as TruncateLine, Sync as SyncLine, Stat as StatLine, List as ListLine, Attr as AttrLine, Change as ChangeLine, Fault as FaultLine, Turn as TurnLine}
 
 -- the runs that a word of data means
 abbrev pub runs_meant : List ℕ → List Run
@@ -29,6 +29,8 @@ line_meant (StatLine path) = lines.StatOf path.now
 line_meant (ListLine path) = lines.ListOf path.now
 line_meant AttrLine = lines.Attributes
 line_meant (ChangeLine change) = lines.Changes change
+line_meant (FaultLine zone command keep) = lines.FaultOn zone command keep
+line_meant (TurnLine zone to) = lines.TurnTo zone to
 
 -- a line, or none where it has no reply
 abbrev pub reading_meant : Option Line → Option lines.Line

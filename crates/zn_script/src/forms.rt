@@ -5,7 +5,7 @@ ghost use Rattle.zn_lines.specs.Words.{no_more};
 ghost use Rattle.zn_lines.specs.Grammar.{mkfs_line, mount_line, umount_line};
 ghost use Rattle.zn_lines.specs.Grammar.{open_line, close_line, size_line, read_line, write_line};
 ghost use Rattle.zn_lines.specs.Grammar.{truncate_line, sync_line, stat_line, list_line, attr_line};
-ghost use Rattle.zn_lines.specs.Grammar.{path_change, rename_line, chmod_line, chown_line};
+ghost use Rattle.zn_lines.specs.Grammar.{path_change, rename_line, chmod_line, chown_line, fault_line, turn_line};
 ghost use Rattle.zn_lines.specs.Grammar.{who_named, line_with, line_of, reading_of};
 ghost use Rattle.zn_script.specs.Data.{CallFits};
 ghost use Rattle.zn_script.specs.Gives.{Gives};
@@ -16,7 +16,8 @@ use crate::Line;
 use crate::data::data_at;
 use crate::items::items_at;
 use crate::words::{
-    mode_at, number_at, options_at, path_at, small_number_at, user_at, verb_of, word_end,
+    kind_at, mode_at, number_at, optional_number_at, options_at, path_at, small_number_at, user_at,
+    verb_of, word_end, worse_at,
 };
 use zn_lines::{Change, LAST_NUMBER, Verb};
 use zn_model::{MOST_BYTES, Who};
@@ -213,6 +214,27 @@ fn chown_line(line: &[u8], at: usize) -> Result<Line<'_>, u32>
     no_more(line, at, Line::Change(Change::Chown))
 }
 
+#[tactic(auto, unfolding(zn_lines::specs::Grammar::fault_line))]
+fn fault_line(line: &[u8], at: usize) -> Result<Line<'_>, u32>
+    requires { IsPlaceIn line.now at }
+    ensures { GivesLine result (fault_line (left_at line.now at)) }
+{
+    let (zone, at) = number_at(line, at, u64::MAX)?;
+    let (command, at) = kind_at(line, at)?;
+    let (keep, at) = optional_number_at(line, at, u32::MAX);
+    no_more(line, at, Line::Fault(zone, command, keep))
+}
+
+#[tactic(auto, unfolding(zn_lines::specs::Grammar::turn_line))]
+fn turn_line(line: &[u8], at: usize) -> Result<Line<'_>, u32>
+    requires { IsPlaceIn line.now at }
+    ensures { GivesLine result (turn_line (left_at line.now at)) }
+{
+    let (zone, at) = number_at(line, at, u64::MAX)?;
+    let (to, at) = worse_at(line, at)?;
+    no_more(line, at, Line::Turn(zone, to))
+}
+
 /// The line with this verb whose other words begin at a place.
 fn line_with(verb: Verb, line: &[u8], at: usize) -> Result<Line<'_>, u32>
     requires { IsPlaceIn line.now at }
@@ -237,6 +259,8 @@ fn line_with(verb: Verb, line: &[u8], at: usize) -> Result<Line<'_>, u32>
         Verb::Rename => rename_line(line, at),
         Verb::Chmod => chmod_line(line, at),
         Verb::Chown => chown_line(line, at),
+        Verb::Fault => fault_line(line, at),
+        Verb::Turn => turn_line(line, at),
     }
 }
 

@@ -10,6 +10,7 @@ pub use data::{data_len, expand};
 pub use forms::parse;
 use zn_lines::Change;
 use zn_model::{Mode, Who};
+use zn_truth::{Command, Cond};
 
 /// What a format is asked for. The texts are parts of the line.
 #[derive(Clone, Copy)]
@@ -42,6 +43,10 @@ pub enum Line<'a> {
     List(&'a str),
     Attr,
     Change(Change),
+    /// A zone's number, the kind of the command that fails, and the blocks that are kept, if some are named.
+    Fault(u64, Command, Option<u32>),
+    /// A zone's number, and a condition that is not good.
+    Turn(u64, Cond),
 }
 
 #[cfg(test)]
@@ -102,6 +107,28 @@ mod tests {
     }
 
     #[test]
+    fn columns_of_faults_and_turns(rt: HostRuntime) {
+        for (line, column) in [
+            ("fault", 6),
+            ("fault 18446744073709551616 read", 7),
+            ("fault 1", 8),
+            ("fault 1 append", 9),
+            ("fault 1 write all", 15),
+            ("fault 1 write 4294967296", 15),
+            ("fault 1 write 1 2", 17),
+            ("turn", 5),
+            ("turn 1", 7),
+            ("turn 1 good", 8),
+            ("turn 1 ro off", 11),
+        ] {
+            match parse(line.as_bytes()) {
+                Err(at) => assert_eq!(rt; at, column, "{line}"),
+                Ok(_) => assert!(rt; false, "{line}"),
+            }
+        }
+    }
+
+    #[test]
     fn lines_that_fit(rt: HostRuntime) {
         assert!(rt; matches!(parse(b""), Ok(None)));
         assert!(rt; matches!(parse(b"#x"), Ok(None)));
@@ -119,6 +146,35 @@ mod tests {
         assert!(rt; matches!(parse(b"sync 2047"), Ok(Some(Line::Sync(2047)))));
         assert!(rt; matches!(parse(b"attr"), Ok(Some(Line::Attr))));
         assert!(rt; matches!(parse(b"rename a b"), Ok(Some(Line::Change(Change::Rename)))));
+    }
+
+    #[test]
+    fn faults_and_turns_that_fit(rt: HostRuntime) {
+        for (line, kind, keep) in [
+            ("fault 7 read", Command::Read, None),
+            ("fault 7 write 0", Command::Write, Some(0)),
+            ("fault 7 reset", Command::Reset, None),
+            ("fault 7 finish", Command::Finish, None),
+            ("fault 7 flush 4294967295", Command::Flush, Some(u32::MAX)),
+            ("fault 7 open", Command::Open, None),
+            ("fault 7 close", Command::Close, None),
+            ("fault 7 report 1", Command::Report, Some(1)),
+        ] {
+            match parse(line.as_bytes()) {
+                Ok(Some(Line::Fault(7, command, blocks))) => {
+                    assert_eq!(rt; command, kind, "{line}");
+                    assert_eq!(rt; blocks, keep, "{line}");
+                }
+                _ => assert!(rt; false, "{line}"),
+            }
+        }
+        assert!(rt; matches!(parse(b"turn 0 ro"), Ok(Some(Line::Turn(0, Cond::ReadOnly)))));
+        assert!(rt;
+            matches!(
+                parse(b"turn 18446744073709551615 off"),
+                Ok(Some(Line::Turn(u64::MAX, Cond::Offline)))
+            )
+        );
     }
 
     #[test]

@@ -2,7 +2,8 @@
 ghost use Rattle.std.specs.Prelude.{◌≡◌, ◌≤◌, length, IfOk, IfSome, MatchOption, option_copied, if◌then◌else◌, position};
 ghost use Rattle.zn_base.specs.Decimals.{number_in};
 ghost use Rattle.zn_lines.specs.Words.{is_blank, next, optional};
-ghost use Rattle.zn_lines.specs.Grammar.{path_of, mode_in, after_key, text_after, user_after, verb_of};
+ghost use Rattle.zn_lines.specs.Grammar.{path_of, mode_in, kind_in, worse_in, after_key, text_after};
+ghost use Rattle.zn_lines.specs.Grammar.{user_after, verb_of};
 ghost use Rattle.zn_script.specs.Gives.{Gives};
 ghost use Rattle.zn_script.specs.Tables.{named_in};
 ghost use Rattle.zn_script.specs.Places.{left_at, IsPlaceIn, NextWord};
@@ -10,9 +11,10 @@ ghost use Rattle.zn_script.specs.Places.{left_at, IsPlaceIn, NextWord};
 use zn_base::parse_number;
 use zn_lines::Verb;
 use zn_model::Mode;
+use zn_truth::{Command, Cond};
 
 /// The word of each verb.
-const VERBS: [(&str, Verb); 18] = [
+const VERBS: [(&str, Verb); 20] = [
     ("mkfs", Verb::Mkfs),
     ("mount", Verb::Mount),
     ("umount", Verb::Umount),
@@ -31,6 +33,8 @@ const VERBS: [(&str, Verb); 18] = [
     ("rename", Verb::Rename),
     ("chmod", Verb::Chmod),
     ("chown", Verb::Chown),
+    ("fault", Verb::Fault),
+    ("turn", Verb::Turn),
 ];
 
 /// The word of each mode.
@@ -39,6 +43,21 @@ const MODES: [(&str, Mode); 3] = [
     ("w", Mode::WRITE),
     ("rw", Mode::READ_WRITE),
 ];
+
+/// The word of each kind of command.
+const KINDS: [(&str, Command); 8] = [
+    ("read", Command::Read),
+    ("write", Command::Write),
+    ("reset", Command::Reset),
+    ("finish", Command::Finish),
+    ("flush", Command::Flush),
+    ("open", Command::Open),
+    ("close", Command::Close),
+    ("report", Command::Report),
+];
+
+/// The word of each condition that a zone turns to.
+const CONDITIONS: [(&str, Cond); 2] = [("ro", Cond::ReadOnly), ("off", Cond::Offline)];
 
 /// Where the first blank is.
 fn blank_at(bytes: &[u8]) -> Option<usize>
@@ -95,6 +114,22 @@ pub fn small_number_at(line: &[u8], at: usize, max: u32) -> Result<(u32, usize),
     match number_at(line, at, max as u64) {
         Ok((value, at)) => Ok((value as u32, at)),
         Err(column) => Err(column),
+    }
+}
+
+/// The number at a place, if there is one of at most `max`, and the place of the word after it.
+pub fn optional_number_at(line: &[u8], at: usize, max: u32) -> (Option<u32>, usize)
+    requires { IsPlaceIn line.now at }
+    ensures gives { optional (number_in max) (left_at line.now at) ≡ Ok (result.0, left_at line.now result.1) }
+    ensures place { IsPlaceIn line.now result.1 }
+{
+    if at > line.len() {
+        return (None, at);
+    }
+    let end = word_end(line, at);
+    match number_in(&line[at..end], max as u64) {
+        Some(number) => (Some(number as u32), end + 1),
+        None => (None, at),
     }
 }
 
@@ -220,6 +255,54 @@ pub fn mode_at(line: &[u8], at: usize) -> Result<(Mode, usize), u32>
     let end = word_end(line, at);
     match mode_in(&line[at..end]) {
         Some(mode) => Ok((mode, end + 1)),
+        None => Err((at + 1) as u32),
+    }
+}
+
+/// The kind of command that a word names.
+#[tactic(auto, unfolding(crate::specs::Tables::named_in, zn_lines::specs::Grammar::kind_in))]
+fn kind_in(word: &[u8]) -> Option<Command>
+    ensures { result ≡ kind_in word.now }
+{
+    named(&KINDS, word)
+}
+
+/// The kind of command at a place, and the place of the word after it.
+pub fn kind_at(line: &[u8], at: usize) -> Result<(Command, usize), u32>
+    requires { IsPlaceIn line.now at }
+    ensures gives { Gives (λ x. (x.0, left_at line.now x.1)) result (next kind_in (left_at line.now at)) }
+    ensures place { IfOk result (λ x. IsPlaceIn line.now x.1) }
+{
+    if at > line.len() {
+        return Err(at as u32);
+    }
+    let end = word_end(line, at);
+    match kind_in(&line[at..end]) {
+        Some(command) => Ok((command, end + 1)),
+        None => Err((at + 1) as u32),
+    }
+}
+
+/// The condition to which a word lets a zone turn.
+#[tactic(auto, unfolding(crate::specs::Tables::named_in, zn_lines::specs::Grammar::worse_in))]
+fn worse_in(word: &[u8]) -> Option<Cond>
+    ensures { result ≡ worse_in word.now }
+{
+    named(&CONDITIONS, word)
+}
+
+/// The condition at a place to which a zone turns, and the place of the word after it.
+pub fn worse_at(line: &[u8], at: usize) -> Result<(Cond, usize), u32>
+    requires { IsPlaceIn line.now at }
+    ensures gives { Gives (λ x. (x.0, left_at line.now x.1)) result (next worse_in (left_at line.now at)) }
+    ensures place { IfOk result (λ x. IsPlaceIn line.now x.1) }
+{
+    if at > line.len() {
+        return Err(at as u32);
+    }
+    let end = word_end(line, at);
+    match worse_in(&line[at..end]) {
+        Some(to) => Ok((to, end + 1)),
         None => Err((at + 1) as u32),
     }
 }

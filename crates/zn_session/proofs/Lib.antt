@@ -10,6 +10,7 @@ pub mod LineCauses
 pub mod Meanings
 pub mod Formatted
 pub mod MountLines
+pub mod Harming
 pub mod HeldCases
 pub mod Carried
 pub mod Fronts

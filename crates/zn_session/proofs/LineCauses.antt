@@ -19,7 +19,7 @@ use Rattle.zn_volume.specs.VolumeState.{VolumeState}
 use Rattle.zn_session.specs.Steps.{LineCause, format_tells, mount_tells}
 
 -- a flag that is true, or isn't
-flag_cases : {P : Type 0} (flag : Bool) → (flag ≡ true → P) → (flag ≡ false → P) → P
+pub flag_cases : {P : Type 0} (flag : Bool) → (flag ≡ true → P) → (flag ≡ false → P) → P
 flag_cases true here other = here refl
 flag_cases false here other = other refl
 

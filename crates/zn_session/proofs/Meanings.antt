@@ -17,7 +17,7 @@ use Rattle.zn_lines.specs.Memory.{takes_itself}
 use Rattle.zn_lines.specs.Table.{Table, no_numbers, handle_of, with_mounted, without_number}
 use Rattle.zn_script.specs.Meant.{line_meant}
 use Rattle.zn_script.specs.declared.Line.{Line}
-use Rattle.zn_script.specs.declared.Line.TheVariants.{Mkfs, Mount, Umount, Open, Close, Size, Read, Write, Truncate, Sync, Stat, List as Listing, Attr, Change}
+use Rattle.zn_script.specs.declared.Line.TheVariants.{Mkfs, Mount, Umount, Open, Close, Size, Read, Write, Truncate, Sync, Stat, List as Listing, Attr, Change, Fault, Turn}
 use Rattle.zn_volume.specs.VolumeState.{VolumeState, mounted_in}
 use Rattle.zn_session.specs.Replies.{text_of, IsWritable}
 use Rattle.zn_session.specs.SessionState.{HeldState, bare_held, mounted_held, table_by, table_of, AreNumbered}
@@ -91,6 +91,8 @@ module _ (entropy : List ℕ) (table : Table) where
   line_but given (Listing path) call = volume_but table.volume _ _ (λ m. refl)
   line_but given Attr call = volume_but table.volume _ _ (λ m. refl)
   line_but given (Change change) call = volume_but table.volume _ _ (λ m. refl)
+  line_but given (Fault zone command keep) call = absurd call
+  line_but given (Turn zone to) call = absurd call
 
 -- ---- calls
 
@@ -140,6 +142,8 @@ bare_now given entropy (Stat path) d numbers call = refl
 bare_now given entropy (Listing path) d numbers call = refl
 bare_now given entropy Attr d numbers call = refl
 bare_now given entropy (Change change) d numbers call = refl
+bare_now given entropy (Fault zone command keep) d numbers call = absurd call
+bare_now given entropy (Turn zone to) d numbers call = absurd call
 
 -- a call without a volume
 pub not_mounted : (line : Line) (buffer entropy : List ℕ) (d : DeviceState) (numbers : List (Option Handle)) → IsCall line → numbers ≡ no_numbers → d.spoilt ≡ false

@@ -1,13 +1,14 @@
 -- The texts of replies. (own)
-use Rattle.std.specs.Prelude.{ℕ, Bool, true, false, ◌≤◌, List, [], ◌∷◌, take, length, codes}
+use Rattle.std.specs.Prelude.{ℕ, Bool, true, false, ◌≤◌, List, [], ◌∷◌, take, length, Ok, Err, codes}
 use Rattle.std.specs.Fmt.{decimal}
 use Rattle.zn_model.specs.declared.limits.TheConstants.{MOST_BYTES}
 use Rattle.zn_base.specs.Texts.{◌⧺◌}
-use Rattle.zn_lines.specs.ReplyTexts.{refusal_name, mount_error_name, format_error_name, option_error_name, error_text, ok_text, number_text, read_text, stat_text, list_text, attr_text}
+use Rattle.zn_lines.specs.ReplyTexts.{refusal_name, mount_error_name, format_error_name, option_error_name, inject_error_name, error_text, ok_text, number_text, read_text, stat_text, list_text, attr_text}
+use Rattle.zn_truth.specs.Inject.{InjectReply}
 use Rattle.zn_model.specs.ZoneFiles.{names_to}
 use Rattle.zn_session.specs.declared.replies.Reply.{Reply}
 use Rattle.zn_session.specs.declared.replies.Reply.TheVariants.{NotMounted, AlreadyMounted, HandleInUse, BadLabel, BadUuid}
-use Rattle.zn_session.specs.declared.replies.Reply.TheVariants.{Refused, OptionRefused, FormatRefused, MountRefused, Done, Number, Bytes}
+use Rattle.zn_session.specs.declared.replies.Reply.TheVariants.{Refused, OptionRefused, FormatRefused, MountRefused, InjectRefused, Done, Number, Bytes}
 use Rattle.zn_session.specs.declared.replies.Reply.TheVariants.{Told, Directories, Names, Attributes}
 
 -- the names of the directories that exist
@@ -32,6 +33,7 @@ text_of (Refused refusal) buffer = error_text (refusal_name refusal)
 text_of (OptionRefused error) buffer = error_text (option_error_name error)
 text_of (FormatRefused error) buffer = error_text (format_error_name error)
 text_of (MountRefused error) buffer = error_text (mount_error_name error)
+text_of (InjectRefused error) buffer = error_text (inject_error_name error)
 text_of Done buffer = ok_text
 text_of (Number n) buffer = number_text n
 text_of (Bytes n) buffer = read_text (take n buffer)
@@ -39,6 +41,11 @@ text_of (Told path stat) buffer = stat_text path.now stat
 text_of (Directories cnv seq) buffer = list_text (directory_names cnv seq)
 text_of (Names n) buffer = list_text (names_to n)
 text_of (Attributes attr) buffer = attr_text attr
+
+-- the reply to a fault, or to a turn of a zone
+abbrev pub inject_reply : InjectReply → Reply
+inject_reply (Ok unit) = Done
+inject_reply (Err error) = InjectRefused error
 
 -- the buffer has as many bytes as the reply tells, and these are not too many
 abbrev pub IsWritable : Reply → List ℕ → Type 0

@@ -2,7 +2,11 @@
 use Rattle.std.specs.Prelude.{◌≡◌, ◌≤◌, ◌⊎◌, ◌+◌, not, ℕ, Bool, true, false, List, Option, Result, Ok, Err, IsErrOf}
 use Rattle.zn_base.specs.Causes.{Rose}
 use Rattle.zn_base.specs.States.{SinkState}
+use Rattle.zn_truth.specs.declared.InjectError.{InjectError}
+use Rattle.zn_truth.specs.declared.InjectError.TheVariants.{Broken as inject_broken, Memory as inject_starved}
+use Rattle.zn_truth.specs.Inject.{InjectReply, Injected}
 use Rattle.zn_truth.specs.World.{geometry_of}
+use Rattle.zn_device.specs.Harms.{Injecting}
 use Rattle.zn_device.specs.States.{DeviceState}
 use Rattle.zn_model.specs.declared.answers.FormatError.{FormatError}
 use Rattle.zn_model.specs.declared.answers.FormatError.TheVariants.{Broken as format_broken, Memory as format_starved}
@@ -21,14 +25,14 @@ use Rattle.zn_run.specs.Steps.{MayStarve}
 use Rattle.zn_run.specs.declared.machine.Step.{Step}
 use Rattle.zn_run.specs.declared.machine.Step.TheVariants.{Done as done_step, BadLine, Broken, SinkFault, Memory}
 use Rattle.zn_script.specs.declared.Line.{Line as ScriptLine}
-use Rattle.zn_script.specs.declared.Line.TheVariants.{Mkfs, Mount, Umount}
+use Rattle.zn_script.specs.declared.Line.TheVariants.{Mkfs, Mount, Umount, Fault, Turn}
 use Rattle.zn_volume.specs.Causes.{CallCause}
 use Rattle.zn_volume.specs.Means.{spoils, without_value}
 use Rattle.zn_volume.specs.VolumeState.{VolumeState, mounted_in}
 use Rattle.zn_session.specs.Replies.{text_of, IsWritable}
 use Rattle.zn_session.specs.SessionState.{HeldState, SessionState, table_of, table_by, table_in, IsNumbered, AreNumbered, opened_on}
 use Rattle.zn_session.specs.declared.replies.Reply.{Reply}
-use Rattle.zn_session.specs.declared.replies.Reply.TheVariants.{Refused, FormatRefused, MountRefused}
+use Rattle.zn_session.specs.declared.replies.Reply.TheVariants.{Refused, FormatRefused, MountRefused, InjectRefused}
 
 -- ---- replies that end a run
 
@@ -44,11 +48,18 @@ mount_tells mount_broken = Err HasBroken
 mount_tells mount_starved = Err Starved
 mount_tells _ = Ok tt
 
+-- and so does a fault or a turn
+abbrev pub inject_tells : InjectError → Result (Unit {0}) Refusal
+inject_tells inject_broken = Err HasBroken
+inject_tells inject_starved = Err Starved
+inject_tells _ = Ok tt
+
 -- what a reply tells, without its value: all of a call's refusals, and of others what ends the run
 abbrev pub told_by : Reply → Result (Unit {0}) Refusal
 told_by (Refused refusal) = Err refusal
 told_by (FormatRefused error) = format_tells error
 told_by (MountRefused error) = mount_tells error
+told_by (InjectRefused error) = inject_tells error
 told_by _ = Ok tt
 
 -- whether a reply ends the run: the device is broken, or memory is wanting
@@ -62,6 +73,8 @@ abbrev pub IsCall : ScriptLine → Type 0
 IsCall (Mkfs words) = ⊥
 IsCall (Mount text) = ⊥
 IsCall Umount = ⊥
+IsCall (Fault zone command keep) = ⊥
+IsCall (Turn zone to) = ⊥
 IsCall _ = Unit {0}
 
 -- A line that is a call on a mounted volume has the reply and leaves the table that are its own, unless it ends the run,
@@ -106,6 +119,12 @@ pub record Means (means : LineMeaning) (line : Line) (reply : Reply) (buffer ent
   pub numbered : ends reply ≡ false → AreNumbered new numbers
   pub opened : ends reply ≡ false → opened_on new.volume ≤ opened_on old.volume + 1
   pub cause : LineCause (takes_itself line) (told_by reply) old.device new.device
+
+-- What harms the device that is held: its answer and its state are as meant, or have their causes, and a volume on it
+-- stays as it is.
+pub record Harms (meant : Injected) (result : InjectReply) (old new : HeldState) : Type 0 where
+  pub device : Injecting meant result old.device new.device
+  pub volume : new.volume ≡ old.volume
 
 -- What the end of a line makes of what is held: without power the volume is gone, and no number has a handle.
 pub record Dropped (old new : HeldState) (numbers0 numbers : List (Option Handle)) : Type 0 where

@@ -365,6 +365,8 @@ pub fn answer<'a, D: Zoned + Drop>(
         Line::Attr => attr(volume),
         Line::Change(change) => self::change(volume, change),
         // These are no calls.
-        Line::Mkfs(_) | Line::Mount(_) | Line::Umount => Reply::AlreadyMounted,
+        Line::Mkfs(_) | Line::Mount(_) | Line::Umount | Line::Fault(..) | Line::Turn(..) => {
+            Reply::AlreadyMounted
+        }
     }
 }

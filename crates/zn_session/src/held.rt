@@ -23,7 +23,7 @@ pub enum Held<D: Zoned + Drop> {
 }
 
 /// Whether the device has power.
-fn powered<D: Zoned + Drop>(held: &Option<Held<D>>) -> bool
+pub fn powered<D: Zoned + Drop>(held: &Option<Held<D>>) -> bool
     requires { IsSome held.now }
     ensures { result ≡ (held_by D.state held.now).device.world.powered }
 {

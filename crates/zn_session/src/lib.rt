@@ -4,6 +4,7 @@
 mod calls;
 mod formats;
 mod held;
+mod injecting;
 mod replies;
 mod session;
 

@@ -4,7 +4,7 @@ ghost use Rattle.zn_base.specs.States.{Writes};
 ghost use Rattle.zn_base.specs.Texts.{◌⧺◌};
 ghost use Rattle.zn_model.specs.declared.answers.FormatError.TheVariants.{BadZone0};
 ghost use Rattle.zn_model.specs.declared.answers.MountError.TheVariants.{NotFormatted};
-ghost use Rattle.zn_lines.specs.ReplyTexts.{mount_error_name, format_error_name, option_error_name};
+ghost use Rattle.zn_lines.specs.ReplyTexts.{mount_error_name, format_error_name, option_error_name, inject_error_name};
 ghost use Rattle.zn_lines.specs.ReplyTexts.{refusal_name, error_text, ok_text, number_text, read_text, stat_text};
 ghost use Rattle.zn_lines.specs.ReplyTexts.{file_text, directory_text, octal_text, name_line, list_text, attr_text};
 ghost use Rattle.std.specs.Fmt.{decimal};
@@ -14,7 +14,7 @@ ghost use Rattle.zn_session.specs.Replies.{text_of, front_text, IsWritable, dire
 
 use zn_base::{Part, Sink, WriteFault, write_all, write_parts, write_runs};
 use zn_model::{Attr, FormatError, MountError, OptError, Refusal, Stat, Why};
-use zn_truth::Cond;
+use zn_truth::{Cond, InjectError};
 
 /// What a line is answered.
 #[derive(Clone, Copy)]
@@ -35,6 +35,8 @@ pub enum Reply<'a> {
     OptionRefused(OptError),
     FormatRefused(FormatError),
     MountRefused(MountError),
+    /// A fault, or a turn of a zone, was refused.
+    InjectRefused(InjectError),
     Done,
     Number(u64),
     /// So many bytes at the front of the session's buffer.
@@ -77,6 +79,19 @@ fn refusal_text(refusal: Refusal) -> &'static [u8]
         Refusal::PowerLost => b"power-lost",
         Refusal::Broken => b"broken",
         Refusal::Memory => b"memory",
+    }
+}
+
+/// The name of what refuses a fault, or a turn of a zone.
+fn inject_error_text(error: InjectError) -> &'static [u8]
+    ensures { result.now ≡ inject_error_name error }
+{
+    match error {
+        InjectError::BadFault => b"bad-fault",
+        InjectError::TooManyFaults => b"too-many-faults",
+        InjectError::PowerLost => b"power-lost",
+        InjectError::Broken => b"broken",
+        InjectError::Memory => b"memory",
     }
 }
 
@@ -371,6 +386,7 @@ pub fn write_reply<K: Sink>(
         Reply::OptionRefused(error) => write_option_error(sink, error),
         Reply::FormatRefused(error) => write_format_error(sink, error),
         Reply::MountRefused(error) => write_mount_error(sink, error),
+        Reply::InjectRefused(error) => write_error(sink, inject_error_text(*error)),
         Reply::Done => write_all(sink, b"ok\n"),
         Reply::Number(number) => write_count(sink, *number),
         Reply::Bytes(count) => write_bytes(sink, &buffer[..*count]),

@@ -14,20 +14,22 @@ ghost use Rattle.zn_session.specs.Steps.{IsCall, Means, Performed, ends, is_star
 use crate::calls;
 use crate::formats::mkfs;
 use crate::held::{Held, breaks, device, drop_unpowered, into_device, mount, umount};
+use crate::injecting::{fault, turn};
 use crate::replies::{Reply, write_reply};
 use std::alloc::{AllocError, Global};
 use std::marker::Model;
 use zn_base::Sink;
-use zn_device::Zoned;
+use zn_device::{Injects, Zoned};
 use zn_lines::MAX_NUMBERS;
 use zn_model::{FormatError, Handle, MOST_BYTES, MountError, Refusal};
 use zn_run::{Machine, Step};
 use zn_script::{Line, parse};
+use zn_truth::InjectError;
 
 /// A session on a device. It begins without a volume; lines format the device, mount and unmount it. Only `new`, lines
 /// that format or mount, and the device's commands take memory.
 #[derive(Drop)]
-pub struct Session<D: Zoned + Drop> {
+pub struct Session<D: Injects + Drop> {
     alloc: Global,
     /// The device, bare or with a volume. It is there but while a line has it in hand.
     held: Option<Held<D>>,
@@ -43,7 +45,7 @@ pub struct Session<D: Zoned + Drop> {
     steps: u64,
 }
 
-impl<D: Zoned + Drop> Model for Session<D> {
+impl<D: Injects + Drop> Model for Session<D> {
     ghost use Rattle.std.specs.Prelude.{length, is_some};
     ghost use Rattle.zn_session.specs.SessionState.{SessionState, IsSession, held_by, session_of};
 
@@ -92,6 +94,7 @@ fn ends(reply: &Reply<'_>) -> bool
         Reply::Refused(Refusal::Broken | Refusal::Memory)
             | Reply::FormatRefused(FormatError::Broken | FormatError::Memory)
             | Reply::MountRefused(MountError::Broken | MountError::Memory)
+            | Reply::InjectRefused(InjectError::Broken | InjectError::Memory)
     )
 }
 
@@ -104,6 +107,7 @@ fn tells_memory(reply: &Reply<'_>) -> bool
         Reply::Refused(Refusal::Memory)
             | Reply::FormatRefused(FormatError::Memory)
             | Reply::MountRefused(MountError::Memory)
+            | Reply::InjectRefused(InjectError::Memory)
     )
 }
 
@@ -163,7 +167,7 @@ fn call<'a, D: Zoned + Drop>(
 }
 
 /// Does what a line asks for.
-fn answer<'a, D: Zoned + Drop>(
+fn answer<'a, D: Injects + Drop>(
     alloc: Global,
     held: &mut Option<Held<D>>,
     numbers: &mut Vec<Option<Handle>>,
@@ -186,12 +190,14 @@ fn answer<'a, D: Zoned + Drop>(
         Line::Mkfs(words) => mkfs(alloc, held, entropy, words),
         Line::Mount(text) => mount(alloc, held, *text),
         Line::Umount => umount(held, numbers),
+        Line::Fault(zone, command, keep) => fault(held, *zone, *command, *keep),
+        Line::Turn(zone, to) => turn(held, *zone, *to),
         _ => call(held, numbers, buffer, line),
     }
 }
 
 /// Does what a line asks for, and what its end does.
-fn carry_out<'a, D: Zoned + Drop>(
+fn carry_out<'a, D: Injects + Drop>(
     alloc: Global,
     held: &mut Option<Held<D>>,
     numbers: &mut Vec<Option<Handle>>,
@@ -217,7 +223,7 @@ fn carry_out<'a, D: Zoned + Drop>(
     reply
 }
 
-impl<D: Zoned + Drop> Session<D> {
+impl<D: Injects + Drop> Session<D> {
     /// A session on a device, on which nothing is mounted. It is refused for want of memory alone.
     pub fn new(alloc: Global, dev: D, entropy: [u8; 16]) -> Result<Session<D>, SessionFail<D>>
         requires unspoilt { (D.state dev).spoilt ≡ false }
@@ -312,7 +318,7 @@ impl<D: Zoned + Drop> Session<D> {
     }
 }
 
-impl<D: Zoned + Drop> Machine for Session<D> {
+impl<D: Injects + Drop> Machine for Session<D> {
     ghost state = { machine_of };
 
     fn step<K: Sink>(&mut self, line: &[u8], sink: &mut K) -> Step {

@@ -1,13 +1,13 @@
 ghost use Rattle.std.specs.Prelude.{◌≡◌, ◌≤◌, IfOk, false};
-ghost use Rattle.zn_device.specs.Memory.{state_of};
 ghost use Rattle.zn_truth.specs.declared.limits.TheConstants.{MAX_ZONES};
 
 use crate::Session;
-use std::alloc::Global;
+use std::alloc::{AllocError, Global};
 use std::process::Abort;
 use std::test::Fail;
 use zn_base::memory::{MemSink, MemSource};
-use zn_device::{MemDevice, Quiet, Zoned};
+use zn_device::{Injects, MemDevice, Quiet, Zoned};
+use zn_fault::Faulty;
 use zn_model::{Mode, Who};
 use zn_run::{Status, run};
 use zn_script::{FormatWords, Line};
@@ -15,8 +15,8 @@ use zn_truth::{Kind, Shape};
 
 /// A new device of four zones of two blocks each: the first of this kind, a conventional one, and two sequential ones.
 /// It has no limits.
-fn device(alloc: Global, first: Kind) -> Result<MemDevice, Fail>
-    ensures { IfOk result (λ dev. (state_of dev).spoilt ≡ false) }
+fn device(alloc: Global, first: Kind) -> Result<Faulty<MemDevice>, Fail>
+    ensures { IfOk result (λ dev. (⟦<Faulty<MemDevice> as Zoned>⟧.state dev).spoilt ≡ false) }
 {
     limited_device(alloc, first, 0, 0)
 }
@@ -27,10 +27,10 @@ fn limited_device(
     first: Kind,
     max_open: u32,
     max_active: u32,
-) -> Result<MemDevice, Fail>
+) -> Result<Faulty<MemDevice>, Fail>
     requires ordered { max_open ≤ max_active }
     requires zones { max_active ≤ MAX_ZONES }
-    ensures { IfOk result (λ dev. (state_of dev).spoilt ≡ false) }
+    ensures { IfOk result (λ dev. (⟦<Faulty<MemDevice> as Zoned>⟧.state dev).spoilt ≡ false) }
 {
     let shape = Shape {
         zone_blocks: 2,
@@ -44,11 +44,12 @@ fn limited_device(
         Kind::Sequential,
         Kind::Sequential,
     ];
-    Ok(MemDevice::new(alloc, &kinds, shape)?)
+    let dev = MemDevice::new(alloc, &kinds, shape)?;
+    Ok(Faulty::new(alloc, dev).map_err(|_| AllocError)?)
 }
 
 /// Carries out a script on a new session, and looks at its replies.
-fn tells<D: Zoned + Drop>(
+fn tells<D: Injects + Drop>(
     rt: &impl Abort,
     alloc: Global,
     dev: D,
@@ -225,7 +226,213 @@ fn truncates_syncs_and_tells_attributes(rt: HostRuntime) -> Result<(), Fail> {
     )
 }
 
-/// A device that doesn't tell its bytes is formatted, mounted and read.
+/// Faults and turns of a device without a volume. Zones 4294967297 and 4294967298 aren't zones 1 and 2.
+#[test]
+fn a_bare_device_is_harmed(rt: HostRuntime) -> Result<(), Fail> {
+    let alloc = rt.alloc();
+    let script = "fault 4 read\n\
+                  fault 4294967297 read\n\
+                  fault 1 reset\n\
+                  fault 1 read 1\n\
+                  turn 4 ro\n\
+                  turn 4294967298 off\n\
+                  mkfs\n\
+                  fault 0 read\n\
+                  mount\n\
+                  mount\n\
+                  umount\n\
+                  turn 0 off\n\
+                  turn 0 ro\n\
+                  turn 0 off\n\
+                  mkfs force\n";
+    let told = "error bad-fault\n\
+                error bad-fault\n\
+                error bad-fault\n\
+                error bad-fault\n\
+                error bad-fault\n\
+                error bad-fault\n\
+                ok\n\
+                ok\n\
+                error io-error\n\
+                ok\n\
+                ok\n\
+                ok\n\
+                error bad-fault\n\
+                error bad-fault\n\
+                error bad-zone0 offline\n";
+    tells(&rt, alloc, device(alloc, Kind::Conventional)?, script, told)
+}
+
+/// Half a write of a conventional file fails, and then nothing may be written until the next mount. Its zone goes
+/// offline, which a read finds.
+#[test]
+fn a_conventional_file_fails(rt: HostRuntime) -> Result<(), Fail> {
+    let alloc = rt.alloc();
+    let script = "mkfs\n\
+                  mount\n\
+                  open 0 cnv/0 rw\n\
+                  fault 1 write 1\n\
+                  write 0 0 61*8192\n\
+                  read 0 0 8192\n\
+                  write 0 0 62*4096\n\
+                  size 0\n\
+                  close 0\n\
+                  umount\n\
+                  mount\n\
+                  open 0 cnv/0 rw\n\
+                  turn 1 off\n\
+                  size 0\n\
+                  read 0 0 1\n\
+                  size 0\n\
+                  read 0 0 1\n\
+                  stat cnv/0\n\
+                  turn 1 ro\n\
+                  turn 1 off\n";
+    let told = "ok\n\
+                ok\n\
+                ok\n\
+                ok\n\
+                error io-error\n\
+                ok 8192 61*4096+00*4096\n\
+                error fs-read-only\n\
+                ok 8192\n\
+                ok\n\
+                ok\n\
+                ok\n\
+                ok\n\
+                ok\n\
+                ok 8192\n\
+                error io-error\n\
+                ok 0\n\
+                error file-offline\n\
+                ok file cnv/0 zone 1 zones 1 size 0 blocks 16 mode 000 uid 0 gid 0 writers 1\n\
+                error bad-fault\n\
+                error bad-fault\n";
+    tells(&rt, alloc, device(alloc, Kind::Conventional)?, script, told)
+}
+
+/// After a failed read a sequential file stays as it is, since it shows what its zone holds; after a failed write it
+/// shows what was written. Its zone turns read-only, which a write finds, and then offline.
+#[test]
+fn a_sequential_file_fails(rt: HostRuntime) -> Result<(), Fail> {
+    let alloc = rt.alloc();
+    let script = "mkfs\n\
+                  mount\n\
+                  open 0 seq/0 rw\n\
+                  write 0 0 61*4096\n\
+                  fault 2 read\n\
+                  fault 3 read\n\
+                  read 0 0 1\n\
+                  read 0 0 1\n\
+                  write 0 4096 62*4096\n\
+                  truncate 0 0\n\
+                  size 0\n\
+                  fault 2 write 1\n\
+                  write 0 0 63*8192\n\
+                  size 0\n\
+                  read 0 4095 9\n\
+                  truncate 0 0\n\
+                  open 1 seq/1 w\n\
+                  close 0\n\
+                  umount\n\
+                  mount\n\
+                  open 0 seq/0 rw\n\
+                  turn 2 ro\n\
+                  read 0 0 1\n\
+                  write 0 4096 64*4096\n\
+                  size 0\n\
+                  read 0 0 1\n\
+                  turn 2 ro\n\
+                  turn 2 off\n\
+                  read 0 0 1\n\
+                  size 0\n\
+                  read 0 0 1\n";
+    let told = "ok\n\
+                ok\n\
+                ok\n\
+                ok\n\
+                ok\n\
+                ok\n\
+                error io-error\n\
+                ok 1 61*1\n\
+                ok\n\
+                ok\n\
+                ok 0\n\
+                ok\n\
+                error io-error\n\
+                ok 4096\n\
+                ok 1 63*1\n\
+                error fs-read-only\n\
+                error fs-read-only\n\
+                ok\n\
+                ok\n\
+                ok\n\
+                ok\n\
+                ok\n\
+                ok 1 63*1\n\
+                error io-error\n\
+                ok 4096\n\
+                ok 1 63*1\n\
+                error bad-fault\n\
+                ok\n\
+                error io-error\n\
+                ok 0\n\
+                error file-offline\n";
+    tells(&rt, alloc, device(alloc, Kind::Conventional)?, script, told)
+}
+
+/// A fault waits for its command beyond an unmount. A flush that fails takes from its zone what isn't durable.
+#[test]
+fn faults_wait(rt: HostRuntime) -> Result<(), Fail> {
+    let alloc = rt.alloc();
+    let script = "mkfs\n\
+                  mount\n\
+                  fault 3 write\n\
+                  fault 3 flush\n\
+                  open 0 seq/0 rw\n\
+                  write 0 0 61*4096\n\
+                  close 0\n\
+                  umount\n\
+                  mount\n\
+                  open 1 seq/1 rw\n\
+                  write 1 0 62*4096\n\
+                  size 1\n\
+                  close 1\n\
+                  umount\n\
+                  mount\n\
+                  open 0 seq/0 r\n\
+                  open 1 seq/1 rw\n\
+                  write 1 0 63*4096\n\
+                  sync 1\n\
+                  size 1\n\
+                  size 0\n\
+                  sync 1\n";
+    let told = "ok\n\
+                ok\n\
+                ok\n\
+                ok\n\
+                ok\n\
+                ok\n\
+                ok\n\
+                ok\n\
+                ok\n\
+                ok\n\
+                error io-error\n\
+                ok 0\n\
+                ok\n\
+                ok\n\
+                ok\n\
+                ok\n\
+                ok\n\
+                ok\n\
+                error io-error\n\
+                ok 0\n\
+                ok 4096\n\
+                ok\n";
+    tells(&rt, alloc, device(alloc, Kind::Conventional)?, script, told)
+}
+
+/// A device that doesn't tell its bytes is formatted, mounted and read, and fails.
 #[test]
 fn a_quiet_device_is_read(rt: HostRuntime) -> Result<(), Fail> {
     let alloc = rt.alloc();
@@ -235,8 +442,9 @@ fn a_quiet_device_is_read(rt: HostRuntime) -> Result<(), Fail> {
         Quiet {
             dev: device(alloc, Kind::Conventional)?,
         },
-        "mkfs\nmount\nopen 0 seq/0 rw\nwrite 0 0 61*4096\nread 0 4090 100\nread 0 5000 4\nread 0 9000 4\nsize 0\n",
-        "ok\nok\nok\nok\nok 6 61*6\nok 0\nerror too-big\nok 4096\n",
+        "mkfs\nmount\nopen 0 seq/0 rw\nwrite 0 0 61*4096\nread 0 4090 100\nread 0 5000 4\nread 0 9000 4\nsize 0\n\
+         fault 2 read\nread 0 0 1\nread 0 0 1\nturn 2 off\nread 0 0 1\n",
+        "ok\nok\nok\nok\nok 6 61*6\nok 0\nerror too-big\nok 4096\nok\nerror io-error\nok 1 61*1\nok\nerror io-error\n",
     )
 }
 

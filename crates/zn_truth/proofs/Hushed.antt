@@ -1,6 +1,6 @@
 -- Without its bytes a device does the same.
-use Rattle.std.proofs.Common.{◌≡◌, ℕ, ◌+◌, ◌*◌, ◌-◌, ◌/◌, min, Bool, true, false, List, [], ◌∷◌, length, take, map, Option, Some, None, Ok, Err, refl, sym, ap, subst, ◌∙◌, nat_lt, ◌≤◌, arith}
-use Rattle.std.specs.Prelude.{unwrap_or, ◌==◌, ◌&&◌, slice_set, if◌then◌else◌}
+use Rattle.std.proofs.Common.{◌≡◌, ℕ, ◌+◌, ◌*◌, ◌-◌, ◌/◌, min, Bool, true, false, List, [], ◌∷◌, length, take, map, Option, Some, None, Ok, Err, refl, sym, ap, subst, ◌∙◌, nat_lt, nat_le, ◌≤◌, arith}
+use Rattle.std.specs.Prelude.{unwrap_or, ◌==◌, ◌&&◌, ◌||◌, not, slice_set, if◌then◌else◌}
 use Rattle.std.proofs.Math.ListN.{get_or-map}
 use Rattle.std.proofs.lemmas.List.{map-set, length-map}
 use Rattle.zn_truth.proofs.Sound.{count_by-map}
@@ -8,6 +8,9 @@ use Rattle.zn_truth.specs.declared.Kind.{Kind}
 use Rattle.zn_truth.specs.declared.Kind.TheVariants.{Conventional, Sequential}
 use Rattle.zn_truth.specs.declared.ZoneOp.{ZoneOp}
 use Rattle.zn_truth.specs.declared.ZoneOp.TheVariants.{Open, Close, Reset, Finish}
+use Rattle.zn_truth.specs.declared.limits.TheConstants.{MAX_FAULTS}
+use Rattle.zn_truth.specs.declared.Cond.{Cond}
+use Rattle.zn_truth.specs.declared.Cond.TheVariants.{Good, ReadOnly, Offline}
 use Rattle.zn_truth.specs.declared.DevError.{DevError}
 use Rattle.zn_truth.specs.declared.DevError.TheVariants.{Fault, PowerLost}
 use Rattle.zn_truth.specs.declared.FaultSpec.{FaultSpec}
@@ -21,6 +24,8 @@ use Rattle.zn_truth.specs.Obeying.{Obeys}
 use Rattle.zn_truth.specs.Orders.{Order, ReadAt, WriteAt, Manage, FlushAll, ReportFrom, Reply, Done, refusal, effect, done, done_unless, written, managed, flushed, opening, writing, managing, changing}
 use Rattle.zn_truth.specs.Power.{settled, clamped, cut_of, stored, zone_lost, zones_lost, lost, cut_write, write_during, during}
 use Rattle.zn_truth.specs.World.{World, Outcome, met, unmet, meets, command_of, zones_of, settled_by_flush, faulted, struck, unarmed, powered_off, issue_armed, issue, outcome, broken_off, geometry_of}
+use Rattle.zn_truth.specs.Inject.{Injected, is_zone, is_bad_fault, severity, unless_bad, inject, turn}
+use Rattle.zn_truth.specs.Loss.{turned_by, turned}
 use Rattle.zn_truth.specs.Hush.{hushed_zone, hushed, hushed_world, hushed_outcome}
 
 -- ---- zones
@@ -205,6 +210,52 @@ unfolding issue
 issue_hushed w order =
     if_outcome w.powered (issue_armed w order w.armed) (record { reply = Err PowerLost; world = w }) (issue_armed (hushed_world w) order w.armed) (record { reply = Err PowerLost; world = hushed_world w })
     (armed_hushed w order w.armed) refl
+
+-- ---- faults and turns that a script asks for
+
+-- the same reply, and the world without its bytes
+abbrev pub hushed_injected : Injected → Injected
+hushed_injected i = record { reply = i.reply; world = hushed_world i.world }
+
+if_injected : (b : Bool) (one other one' other' : Injected) → one' ≡ hushed_injected one → other' ≡ hushed_injected other → (if b then one' else other') ≡ hushed_injected (if b then one else other)
+if_injected true one other one' other' same same' = same
+if_injected false one other one' other' same same' = same'
+
+is_zone_hushed : (t : Truth) (z : ℕ) → is_zone (hushed t) z ≡ is_zone t z
+is_zone_hushed t z = ap (nat_lt z) (length-map t.zones hushed_zone)
+
+bad_fault_hushed : (t : Truth) (fault : FaultSpec) → is_bad_fault (hushed t) fault ≡ is_bad_fault t fault
+bad_fault_hushed t fault = rw (is_zone_hushed t fault.zone.0, at_hushed t fault.zone.0) refl
+
+pub inject_hushed : (w : World) (fault : FaultSpec) → inject (hushed_world w) fault ≡ hushed_injected (inject w fault)
+unfolding inject
+inject_hushed w fault = rw (bad_fault_hushed w.truth fault)
+    (if_injected (is_bad_fault w.truth fault) _ _ _ _ refl (if_injected (nat_le MAX_FAULTS (length w.pending)) _ _ _ _ refl refl))
+
+turned_by_hushed : (to : Cond) (zone : Zone) → hushed_zone (turned_by to (hushed_zone zone)) ≡ hushed_zone (turned_by to zone)
+turned_by_hushed Good zone = refl
+turned_by_hushed ReadOnly zone = refl
+turned_by_hushed Offline zone = refl
+
+turned_hushed : (t : Truth) (z : ℕ) (to : Cond) → turned (hushed t) z to ≡ hushed (turned t z to)
+unfolding turned
+turned_hushed t z to = rw (at_hushed t z) (with_hushed t z (turned_by to (zone_at t z)) (turned_by to (hushed_zone (zone_at t z))) (turned_by_hushed to (zone_at t z)))
+
+no_worse_hushed : (t : Truth) (z : ℕ) (to : Cond) → nat_le (severity to) (severity (zone_at (hushed t) z).cond) ≡ nat_le (severity to) (severity (zone_at t z).cond)
+no_worse_hushed t z to = rw (at_hushed t z) refl
+
+pub turn_hushed : (w : World) (z : ℕ) (to : Cond) → turn (hushed_world w) z to ≡ hushed_injected (turn w z to)
+unfolding turn
+turn_hushed w z to =
+    let bad : Truth → Bool = λ t. not (is_zone t z) || nat_le (severity to) (severity (zone_at t z).cond) in
+    let after : Truth → World = λ t. record (hushed_world w) { truth = t } in
+    let same : bad (hushed w.truth) ≡ bad w.truth =
+    ap (λ b. not b || nat_le (severity to) (severity (zone_at (hushed w.truth) z).cond)) (is_zone_hushed w.truth z)
+    ∙ ap (λ b. not (is_zone w.truth z) || b) (no_worse_hushed w.truth z to) in
+    if_injected (not w.powered) _ _ _ _ refl
+    (ap (λ b. unless_bad b (hushed_world w) (after (turned (hushed w.truth) z to))) same
+    ∙ ap (λ (t : Truth). unless_bad (bad w.truth) (hushed_world w) (after t)) (turned_hushed w.truth z to)
+    ∙ if_injected (bad w.truth) _ _ _ _ refl refl)
 
 -- ---- what every device keeps to
 
