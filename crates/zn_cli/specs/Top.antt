@@ -27,7 +27,7 @@ pub record Unread (result status : Status) (line : List ℕ) (old new : Streams)
   pub untouched : new.source ≡ old.source
   pub closed : Closed result status line old.sink new.sink
 
--- The run of a script on the new device that is asked for. The device in memory never fails.
+-- The run of a script on the new device that is asked for. The device in memory never breaks.
 pub record Scratched (s : Scratch) (entropy : List ℕ) (result : Status) (old new : Streams) : Type 0 where
   -- the machine in the end
   pub machine : MachineState

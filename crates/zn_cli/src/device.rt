@@ -1,11 +1,11 @@
 // The device that a command line asks for.
 ghost use Rattle.std.specs.Prelude.{◌≡◌, IfOk};
 ghost use Rattle.zn_lines.specs.Scratch.{kinds_of, shape_of};
-ghost use Rattle.zn_device.specs.Memory.{state_of};
 ghost use Rattle.zn_cli.specs.Scratch.{scratch_device, IsWithin};
 
 use std::alloc::{AllocError, Global};
-use zn_device::MemDevice;
+use zn_device::{MemDevice, Zoned};
+use zn_fault::Faulty;
 use zn_lines::Scratch;
 use zn_truth::{Kind, Shape};
 
@@ -33,12 +33,16 @@ fn shape(scratch: Scratch) -> Shape
     }
 }
 
-/// The new device that is asked for.
+/// The new device that is asked for, which takes faults and turns.
 #[tactic(auto, unfolding(zn_truth::specs::Fresh::fresh_truth))]
-pub fn device(alloc: Global, scratch: Scratch) -> Result<MemDevice, AllocError>
+pub fn device(alloc: Global, scratch: Scratch) -> Result<Faulty<MemDevice>, AllocError>
     requires { IsWithin scratch }
-    ensures { IfOk result (λ device. state_of device ≡ scratch_device scratch) }
+    ensures { IfOk result (λ device. ⟦<Faulty<MemDevice> as Zoned>⟧.state device ≡ scratch_device scratch) }
 {
     let kinds = kinds(alloc, scratch)?;
-    MemDevice::new(alloc, &kinds, shape(scratch))
+    let device = MemDevice::new(alloc, &kinds, shape(scratch))?;
+    match Faulty::new(alloc, device) {
+        Ok(device) => Ok(device),
+        Err(_) => Err(AllocError),
+    }
 }

@@ -10,14 +10,15 @@ use crate::words::parse;
 use std::alloc::{AllocError, Global};
 use zn_base::{Sink, Source};
 use zn_device::MemDevice;
+use zn_fault::Faulty;
 use zn_lines::Scratch;
 use zn_model::{Mode, Who};
 use zn_run::{Status, end_starved, end_with, run};
 use zn_script::{FormatWords, Line};
 use zn_session::Session;
 
-/// A device in memory never fails, and its commands take no memory.
-fn is_calm(session: &Session<MemDevice>)
+/// A device in memory never breaks, and its commands take no memory.
+fn never_breaks(session: &Session<Faulty<MemDevice>>)
     ensures whole { session.now.held.device.breaks ≡ 0 }
     ensures memory { session.now.held.device.takes_memory ≡ false }
 {
@@ -26,7 +27,7 @@ fn is_calm(session: &Session<MemDevice>)
 
 /// Formats the device with the defaults, mounts it, and opens `seq/0` by number 0 where that is there. It answers
 /// whether all of this was done: not where memory is wanting.
-fn begin(session: &mut Session<MemDevice>) -> bool
+fn begin(session: &mut Session<Faulty<MemDevice>>) -> bool
     requires goes_on { session.old.over ≡ false }
     requires few { session.old.steps < 2 ^ 61 }
     ensures { result ≡ true → (table_in session.old).world.truth.told ≡ true
@@ -53,7 +54,7 @@ fn session(
     alloc: Global,
     scratch: Scratch,
     entropy: [u8; 16],
-) -> Result<Session<MemDevice>, AllocError>
+) -> Result<Session<Faulty<MemDevice>>, AllocError>
     requires { IsWithin scratch }
     ensures { IfOk result (λ s. machine_of s ≡ scratch_machine scratch entropy) }
 {
@@ -62,7 +63,7 @@ fn session(
         return Err(AllocError);
     };
     let begun = begin(&mut session);
-    is_calm(&session);
+    never_breaks(&session);
     if begun { Ok(session) } else { Err(AllocError) }
 }
 
@@ -81,7 +82,7 @@ fn run_scratch<S: Source, K: Sink>(
     match session(alloc, scratch, entropy) {
         Ok(mut session) => {
             let status = run(alloc, &mut session, source, sink);
-            is_calm(&session);
+            never_breaks(&session);
             status
         }
         Err(_) => end_starved(sink),

@@ -176,6 +176,25 @@ fn zones_are_opened_explicitly(rt: HostRuntime) -> Result<(), Fail> {
 }
 
 #[test]
+fn devices_fail(rt: HostRuntime) -> Result<(), Fail> {
+    for case in [
+        done(
+            "scratch 4 2 2",
+            "fault 2 write 1\nwrite 0 0 61*8192\nsize 0\nread 0 4000 200\nwrite 0 4096 62*4096\nfault 4 read\nturn 1 off\nstat cnv/0\n",
+            "ok\nerror io-error\nok 4096\nok 96 61*96\nerror fs-read-only\nerror bad-fault\nok\nok file cnv/0 zone 1 zones 1 size 8192 blocks 16 mode 640 uid 0 gid 0 writers 0\n",
+        ),
+        done(
+            "scratch 4 2 2",
+            "turn 2 ro\nwrite 0 0 61*4096\nsize 0\nturn 2 ro\nturn 2 off\nread 0 0 1\nsync 0\nclose 0\numount\nmount\nopen 0 seq/0 r\n",
+            "ok\nerror io-error\nok 0\nerror bad-fault\nok\nok 0\nok\nok\nok\nok\nerror file-offline\n",
+        ),
+    ] {
+        runs(rt, rt.alloc(), case)?;
+    }
+    Ok(())
+}
+
+#[test]
 fn handles_and_names(rt: HostRuntime) -> Result<(), Fail> {
     for case in [
         done(

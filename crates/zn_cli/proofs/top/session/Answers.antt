@@ -1,9 +1,8 @@
-use Rattle.zn_device.specs.Memory.{state_of}
 use Rattle.zn_cli.proofs.Beginning.{begins, session_told}
 use Rattle.zn_cli.proofs.top.session.Goals as goal
 
 pub returns-then-begun : goal.returns-then-begun
 returns-then-begun c =
-    let told = session_told c.args.scratch c.args.entropy c.in-Ok.session (state_of c.in_ok-device.device) c.in_ok-device.ensures c.in-Ok.ensures.begun in
-    begins c.args.scratch c.args.entropy c.in-Ok.session c.begin-begun.new.session (state_of c.in_ok-device.device)
-    c.in_ok-device.ensures c.in-Ok.ensures.begun (c.begin-begun.ensures c.if-begun.true told) c.is_calm.ensures.whole c.is_calm.ensures.memory
+    let told = session_told c.args.scratch c.args.entropy c.in-Ok.session _ c.in_ok-device.ensures c.in-Ok.ensures.begun in
+    begins c.args.scratch c.args.entropy c.in-Ok.session c.begin-begun.new.session _
+    c.in_ok-device.ensures c.in-Ok.ensures.begun (c.begin-begun.ensures c.if-begun.true told) c.never_breaks.ensures.whole c.never_breaks.ensures.memory
