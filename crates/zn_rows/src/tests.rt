@@ -1,3 +1,7 @@
+mod faults;
+mod policies;
+mod recovery;
+
 use std::alloc::{AllocError, Global};
 use std::process::Abort;
 use std::test::Fail;
@@ -73,6 +77,18 @@ fn runs<R: Abort + Copy>(rt: R, alloc: Global, case: Case) -> Result<(), Fail> {
         case.status,
         case.written,
     )
+}
+
+/// Carries out a script to its end.
+fn carried_out<R: Abort + Copy>(
+    rt: R,
+    alloc: Global,
+    words: &str,
+    script: &str,
+    written: &str,
+) -> Result<(), Fail> {
+    let mut source = source_of(alloc, script.as_bytes(), &[])?;
+    ends_so(rt, alloc, words, &mut source, Status::Done, written)
 }
 
 /// A write, a read of what it wrote, and the size after it.
