@@ -48,6 +48,26 @@ fn limited_device(
     Ok(Faulty::new(alloc, dev).map_err(|_| AllocError)?)
 }
 
+/// A new device of a conventional zone and three sequential ones, of four blocks each, of which one may be active.
+fn narrow_device(alloc: Global) -> Result<Faulty<MemDevice>, Fail>
+    ensures { IfOk result (λ dev. (⟦<Faulty<MemDevice> as Zoned>⟧.state dev).spoilt ≡ false) }
+{
+    let shape = Shape {
+        zone_blocks: 4,
+        zone_capacity: 4,
+        max_open: 0,
+        max_active: 1,
+    };
+    let kinds = [
+        Kind::Conventional,
+        Kind::Sequential,
+        Kind::Sequential,
+        Kind::Sequential,
+    ];
+    let dev = MemDevice::new(alloc, &kinds, shape)?;
+    Ok(Faulty::new(alloc, dev).map_err(|_| AllocError)?)
+}
+
 /// Carries out a script on a new session, and looks at its replies.
 fn tells<D: Injects + Drop>(
     rt: &impl Abort,
@@ -379,6 +399,26 @@ fn a_sequential_file_fails(rt: HostRuntime) -> Result<(), Fail> {
                 ok 0\n\
                 error file-offline\n";
     tells(&rt, alloc, device(alloc, Kind::Conventional)?, script, told)
+}
+
+/// A write that a limit refuses is followed by recovery as any other.
+#[test]
+fn a_limit_fails_a_write(rt: HostRuntime) -> Result<(), Fail> {
+    let alloc = rt.alloc();
+    tells(
+        &rt,
+        alloc,
+        narrow_device(alloc)?,
+        "mkfs\n\
+         mount\n\
+         open 0 seq/0 rw\n\
+         open 1 seq/1 rw\n\
+         write 0 0 61*4096\n\
+         write 1 0 62*4096\n\
+         write 0 4096 61*4096\n\
+         read 1 0 1\n",
+        "ok\nok\nok\nok\nok\nerror too-many-active\nerror fs-read-only\nok 0\n",
+    )
 }
 
 /// A fault waits for its command beyond an unmount. A flush that fails takes from its zone what isn't durable.
