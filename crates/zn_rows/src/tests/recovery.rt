@@ -81,6 +81,50 @@ fn flushes_lose_blocks_of_other_files(rt: HostRuntime) -> Result<(), Fail> {
     Ok(())
 }
 
+/// A read meets blocks that a failed flush lost: what each policy leaves of the file, by the condition of its zone. A
+/// read-only zone leaves the size as it is, though it holds less.
+#[test]
+fn lost_blocks_are_read(rt: HostRuntime) -> Result<(), Fail> {
+    for (policy, turn, size, mode, read) in [
+        ("remount-ro", "", 4096, "440", "ok 4096 62*4096"),
+        ("remount-ro", "turn 2 ro\n", 8192, "440", "ok 4096 62*4096"),
+        ("remount-ro", "turn 2 off\n", 0, "000", "error file-offline"),
+        ("zone-ro", "", 4096, "440", "ok 4096 62*4096"),
+        ("zone-ro", "turn 2 ro\n", 8192, "440", "ok 4096 62*4096"),
+        ("zone-ro", "turn 2 off\n", 0, "000", "error file-offline"),
+        ("zone-offline", "", 0, "000", "error file-offline"),
+        (
+            "zone-offline",
+            "turn 2 ro\n",
+            0,
+            "000",
+            "error file-offline",
+        ),
+        (
+            "zone-offline",
+            "turn 2 off\n",
+            0,
+            "000",
+            "error file-offline",
+        ),
+        ("repair", "", 4096, "640", "ok 4096 62*4096"),
+        ("repair", "turn 2 ro\n", 8192, "440", "ok 4096 62*4096"),
+        ("repair", "turn 2 off\n", 0, "000", "error file-offline"),
+    ] {
+        let script = format!(in rt.alloc();
+            "close 0\numount\nmount errors={policy}\nopen 0 seq/0 rw\nopen 1 seq/1 rw\nwrite 1 0 62*8192\nfault 2 flush 1\n\
+             sync 0\n{turn}read 1 0 8192\nstat seq/1\nread 1 0 4096\n"
+        )?;
+        let turned = if turn.is_empty() { "" } else { "ok\n" };
+        let written = format!(in rt.alloc();
+            "ok\nok\nok\nok\nok\nok\nok\nerror io-error\n{turned}error io-error\n\
+             ok file seq/1 zone 2 zones 1 size {size} blocks 32 mode {mode} uid 0 gid 0 writers 1\n{read}\n"
+        )?;
+        carried_out(rt, rt.alloc(), "scratch 4 1 4", &script, &written)?;
+    }
+    Ok(())
+}
+
 /// A script that lets the device fail, and then opens and closes a file twice on a volume with explicit opens, with every
 /// other command between. The volume is mounted a second time at the end.
 fn each_command(alloc: Global, faults: &str) -> Result<String, AllocError> {
