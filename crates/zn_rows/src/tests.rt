@@ -1,5 +1,6 @@
 mod faults;
 mod policies;
+mod power;
 mod recovery;
 
 use std::alloc::{AllocError, Global};
@@ -457,40 +458,44 @@ fn faults_end_runs(rt: HostRuntime) -> Result<(), Fail> {
 
 #[test]
 fn other_lines_are_refused(rt: HostRuntime) -> Result<(), Fail> {
-    for line in [
-        "mount a b",
-        "mount ",
-        "umount 0",
-        "mkfs force force",
-        "mkfs label=",
-        "mkfs uuid=1 label=a uuid=2",
-        "mkfs Force",
-        "open 1 seq/0 r gid=1 uid=1",
-        "open 1 seq/0 r uid=1 uid=1",
-        "open 1 seq/0 r uid=4294967296",
-        "open 1 seq/0 r gid=01",
-        "open 1 seq/0 r root",
-        " size 0",
-        "size 0 ",
-        "size  0",
-        "size 0\r",
-        "SIZE 0",
-        "size",
-        "size 00",
-        "size 2048",
-        "open 1 seq/0",
-        "open 1 seq/0 wr",
-        "read 0 0",
-        "read 0 0 1048577",
-        "write 0 18446744073709551616 61*0",
-        "write 0 0 61",
-        "write 0 0 6A*1",
-        "write 0 0 61*1+",
-        "write 0 0 61*1048576+61*1",
-        "chmod seq/0 4294967296",
-        "list",
+    for (line, column) in [
+        ("mount a b", 9),
+        ("mount ", 7),
+        ("umount 0", 8),
+        ("mkfs force force", 12),
+        ("mkfs label=", 6),
+        ("mkfs uuid=1 label=a uuid=2", 21),
+        ("mkfs Force", 6),
+        ("open 1 seq/0 r gid=1 uid=1", 22),
+        ("open 1 seq/0 r uid=1 uid=1", 22),
+        ("open 1 seq/0 r uid=4294967296", 16),
+        ("open 1 seq/0 r gid=01", 16),
+        ("open 1 seq/0 r root", 16),
+        (" size 0", 1),
+        ("size 0 ", 8),
+        ("size  0", 6),
+        ("size 0\r", 6),
+        ("SIZE 0", 1),
+        (" ", 1),
+        ("size", 5),
+        ("size 00", 6),
+        ("size 2048", 6),
+        ("open 1 seq/0", 13),
+        ("open 1 seq/0 wr", 14),
+        ("read 0 0", 9),
+        ("read 0 0 1048577", 10),
+        ("write 0 18446744073709551616 61*0", 9),
+        ("write 0 0 61", 11),
+        ("write 0 0 6A*1", 11),
+        ("write 0 0 61*1+", 11),
+        ("write 0 0 61*1048576+61*1", 11),
+        ("chmod seq/0 4294967296", 13),
+        ("list", 5),
+        ("power-loss fill=EE", 12),
+        ("power-loss-in 1 write 1:1 done", 27),
     ] {
         let script = format!(in rt.alloc(); "size 0\n\n# {line}\n{line}\nsize 0\n")?;
+        let written = format!(in rt.alloc(); "ok 0\nscript-error 4 {column}\n")?;
         let mut source = source_of(rt.alloc(), script.as_bytes(), &[])?;
         ends_so(
             rt,
@@ -498,8 +503,24 @@ fn other_lines_are_refused(rt: HostRuntime) -> Result<(), Fail> {
             "scratch 4 1 2",
             &mut source,
             Status::Script,
-            "ok 0\nnot-built 4\n",
+            &written,
         )?;
+    }
+    for (script, written) in [
+        (
+            "size 0\nsize 0\nsizes 0\nsize 0\n",
+            "ok 0\nok 0\nscript-error 3 1\n",
+        ),
+        ("read 0", "script-error 1 7\n"),
+        ("size 0 ", "script-error 1 8\n"),
+    ] {
+        let case = Case {
+            words: "scratch 4 1 2",
+            script,
+            status: Status::Script,
+            written,
+        };
+        runs(rt, rt.alloc(), case)?;
     }
     // The greatest numbers.
     runs(
