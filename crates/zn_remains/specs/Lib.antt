@@ -1,0 +1,5 @@
+pub mod Events
+pub mod Remaining
+pub mod LineEvents
+pub mod Histories
+pub mod Laws

@@ -1,0 +1,46 @@
+// Laws of losses of power over whole scripts, each the contract of a function that does nothing.
+ghost use Rattle.zn_remains.specs.Remaining.{DarkStays, DurableStays, FlushMakesDurable, LossKeeps};
+ghost use Rattle.zn_remains.specs.Laws.{EventsKeep, PowerLossesKeep, ScriptsAreEvents, SyncMakesDurable};
+
+/// Where the power goes each sequential zone keeps what was durable, and ends no later than its last issued append.
+pub fn loss_keeps()
+    ensures { LossKeeps }
+{}
+
+/// What is durable stays so, until the zone is emptied or turned offline.
+pub fn durable_stays()
+    ensures { DurableStays }
+{}
+
+/// A flush that is answered without an error makes every zone durable as a whole.
+#[tactic(auto, using(crate::proofs::Powers::flush_durable))]
+pub fn flush_makes_durable()
+    ensures { FlushMakesDurable }
+{}
+
+/// Without power no event changes what the device holds.
+#[tactic(auto, using(crate::proofs::Powers::dark_stays))]
+pub fn dark_stays()
+    ensures { DarkStays }
+{}
+
+/// Events one after another keep sequential zones so.
+pub fn events_keep()
+    ensures { EventsKeep }
+{}
+
+/// A line that syncs and says `ok` leaves every zone durable as a whole.
+pub fn sync_makes_durable()
+    ensures { SyncMakesDurable }
+{}
+
+/// All that a script does to the device is a list of events, line by line.
+pub fn scripts_are_events()
+    ensures { ScriptsAreEvents }
+{}
+
+/// What a sequential file holds after power returns is, from its start to its durable length, what it held, and no
+/// longer than its last issued append.
+pub fn power_losses_keep()
+    ensures { PowerLossesKeep }
+{}
