@@ -1,1 +1,3 @@
 pub mod Powers
+pub mod Zones
+pub mod Remains

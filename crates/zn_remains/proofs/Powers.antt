@@ -65,7 +65,7 @@ flush_durable w ok = issue_cases (λ o. o.reply ≡ Ok tt → IsAllDurable o.wor
 
 -- ---- without power
 
-asked_leaves : (w : World) (fault : FaultSpec) (P : World → Type 0) → P w → ((pending : List FaultSpec) → P (record w { pending = pending })) → P (inject w fault).world
+pub asked_leaves : (w : World) (fault : FaultSpec) (P : World → Type 0) → P w → ((pending : List FaultSpec) → P (record w { pending = pending })) → P (inject w fault).world
 unfolding inject
 asked_leaves w fault P here waits =
     either (is_bad_fault w.truth fault) (record { reply = Err BadFault; world = w }) (if nat_le MAX_FAULTS (length w.pending) then (let full : Injected = record { reply = Err TooManyFaults; world = w } in full) else kept) here
@@ -95,7 +95,7 @@ back_truth : (w : World) → (power_on w).truth ≡ w.truth
 unfolding power_on
 back_truth w = refl
 
-back_on : (w : World) → (power_on w).powered ≡ true
+pub back_on : (w : World) → (power_on w).powered ≡ true
 unfolding power_on
 back_on w = refl
 

@@ -3,6 +3,7 @@ ghost use Rattle.zn_remains.specs.Remaining.{DarkStays, DurableStays, FlushMakes
 ghost use Rattle.zn_remains.specs.Laws.{EventsKeep, PowerLossesKeep, ScriptsAreEvents, SyncMakesDurable};
 
 /// Where the power goes each sequential zone keeps what was durable, and ends no later than its last issued append.
+#[tactic(auto, using(crate::proofs::Remains::loss_keeps))]
 pub fn loss_keeps()
     ensures { LossKeeps }
 {}
