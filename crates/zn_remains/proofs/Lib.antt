@@ -1,3 +1,4 @@
 pub mod Powers
 pub mod Zones
 pub mod Remains
+pub mod Stays

@@ -91,7 +91,7 @@ lose_off : (w : World) (loss : LossSpec) → w.powered ≡ false → (lose_power
 unfolding lose_power
 lose_off w loss off = refused w.powered w (unless_bad (are_bad_cuts w.truth loss.cuts || list_any (is_outside w.truth) loss.cuts) w (record w { truth = lost w.truth loss; powered = false })) off
 
-back_truth : (w : World) → (power_on w).truth ≡ w.truth
+pub back_truth : (w : World) → (power_on w).truth ≡ w.truth
 unfolding power_on
 back_truth w = refl
 

@@ -9,6 +9,7 @@ pub fn loss_keeps()
 {}
 
 /// What is durable stays so, until the zone is emptied or turned offline.
+#[tactic(auto, using(crate::proofs::Stays::durable_stays))]
 pub fn durable_stays()
     ensures { DurableStays }
 {}
