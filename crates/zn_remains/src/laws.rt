@@ -27,6 +27,7 @@ pub fn dark_stays()
 {}
 
 /// Events one after another keep sequential zones so.
+#[tactic(auto, using(crate::proofs::EventsKept::events_keep))]
 pub fn events_keep()
     ensures { EventsKeep }
 {}
