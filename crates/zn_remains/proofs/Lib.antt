@@ -4,3 +4,4 @@ pub mod Remains
 pub mod Stays
 pub mod Standing
 pub mod EventsKept
+pub mod Syncs

@@ -33,6 +33,7 @@ pub fn events_keep()
 {}
 
 /// A line that syncs and says `ok` leaves every zone durable as a whole.
+#[tactic(auto, using(crate::proofs::Syncs::sync_durable))]
 pub fn sync_makes_durable()
     ensures { SyncMakesDurable }
 {}
