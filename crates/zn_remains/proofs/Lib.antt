@@ -5,3 +5,5 @@ pub mod Stays
 pub mod Standing
 pub mod EventsKept
 pub mod Syncs
+pub mod Reached
+pub mod Areas
