@@ -7,3 +7,5 @@ pub mod EventsKept
 pub mod Syncs
 pub mod Reached
 pub mod Areas
+pub mod Agreement
+pub mod Recovering
