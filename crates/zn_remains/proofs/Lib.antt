@@ -9,3 +9,6 @@ pub mod Reached
 pub mod Areas
 pub mod Agreement
 pub mod Recovering
+pub mod CallOrders
+pub mod Checks
+pub mod CallsOnFiles
