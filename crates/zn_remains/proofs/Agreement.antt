@@ -72,7 +72,7 @@ agrees_changed g inodes requests after f shown read_only agrees size end held fe
 
 -- ---- requests
 
-bytes-cons : (request : Request) (requests : List Request) (f : ℕ) → waiting_bytes (request ∷ requests) f ≡ (if request.file == f then length request.bytes else 0) + waiting_bytes requests f
+pub bytes-cons : (request : Request) (requests : List Request) (f : ℕ) → waiting_bytes (request ∷ requests) f ≡ (if request.file == f then length request.bytes else 0) + waiting_bytes requests f
 bytes-cons request requests f = sum_by-cons (λ (r : Request). if r.file == f then length r.bytes else 0) request requests
 
 pub no_fewer : (requests : List Request) → Fewer requests requests

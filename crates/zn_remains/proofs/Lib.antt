@@ -12,3 +12,6 @@ pub mod Recovering
 pub mod CallOrders
 pub mod Checks
 pub mod CallsOnFiles
+pub mod CallsOnHandles
+pub mod CallsOnRequests
+pub mod Looking
