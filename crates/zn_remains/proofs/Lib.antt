@@ -15,3 +15,4 @@ pub mod CallsOnFiles
 pub mod CallsOnHandles
 pub mod CallsOnRequests
 pub mod Looking
+pub mod Blocks
