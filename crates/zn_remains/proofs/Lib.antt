@@ -16,3 +16,4 @@ pub mod CallsOnHandles
 pub mod CallsOnRequests
 pub mod Looking
 pub mod Blocks
+pub mod Mounts

@@ -45,7 +45,7 @@ holds_range t most first (suc n) each =
     let more : suc n * most ≡ n * most + most = suc-mul n most in
     omega (arith, here, rest, parts, more)
 
-shape_is : (g : Geometry) (w : World) → Stands g w → w.truth.shape ≡ g.shape
+pub shape_is : (g : Geometry) (w : World) → Stands g w → w.truth.shape ≡ g.shape
 unfolding geometry_of
 shape_is g w stands = ap (λ (h : Geometry). h.shape) stands.geometry
 
