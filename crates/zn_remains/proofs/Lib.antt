@@ -17,3 +17,4 @@ pub mod CallsOnRequests
 pub mod Looking
 pub mod Blocks
 pub mod Mounts
+pub mod Formats
