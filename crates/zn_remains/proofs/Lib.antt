@@ -18,3 +18,4 @@ pub mod Looking
 pub mod Blocks
 pub mod Mounts
 pub mod Formats
+pub mod Lines

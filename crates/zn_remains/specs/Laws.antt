@@ -1,5 +1,5 @@
 -- Laws over whole scripts: what sequential zones hold after losses of power. (own)
-use Rattle.std.specs.Prelude.{◌≡◌, ℕ, ◌*◌, ◌≤◌, true, false, List, [], ◌∷◌, ◌++◌, take, None}
+use Rattle.std.specs.Prelude.{◌≡◌, ℕ, ◌*◌, ◌≤◌, true, false, List, [], ◌∷◌, ◌++◌, length, take, None}
 use Rattle.std.specs.List.{All}
 use Rattle.zn_truth.specs.declared.limits.TheConstants.{BLOCK_SIZE}
 use Rattle.zn_truth.specs.Limits.{IsWithinLimits}
@@ -14,11 +14,13 @@ use Rattle.zn_remains.specs.Events.{Event, PowerBack, after_events, FitsIn, Powe
 use Rattle.zn_remains.specs.Histories.{Carried, after_lines, events_of, History}
 use Rattle.zn_remains.specs.Remaining.{AllRemain, StaysDurable, IsSequentialZone, IsAllDurable, spares, is_dark}
 
--- Nothing is mounted, the device is sound, and its geometry is one that a device may have.
+-- Nothing is mounted, the device is sound and its geometry one that a device may have, and the session was given sixteen
+-- bytes for identifiers.
 pub record MayBegin (table : Table) : Type 0 where
   pub unmounted : table.volume ≡ None
   pub sound : IsSound table.world.truth
   pub limits : IsWithinLimits (geometry_of table.world)
+  pub entropy : length table.entropy ≡ 16
 
 -- All that a script does to the device is a list of events, line by line.
 abbrev pub ScriptsAreEvents : Type 0
