@@ -19,3 +19,4 @@ pub mod Blocks
 pub mod Mounts
 pub mod Formats
 pub mod Lines
+pub mod Steps
