@@ -20,3 +20,4 @@ pub mod Mounts
 pub mod Formats
 pub mod Lines
 pub mod Steps
+pub mod Scripts

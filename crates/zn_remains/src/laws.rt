@@ -39,6 +39,7 @@ pub fn sync_makes_durable()
 {}
 
 /// All that a script does to the device is a list of events, line by line.
+#[tactic(auto, using(crate::proofs::Scripts::scripts_are_events))]
 pub fn scripts_are_events()
     ensures { ScriptsAreEvents }
 {}
