@@ -21,3 +21,4 @@ pub mod Formats
 pub mod Lines
 pub mod Steps
 pub mod Scripts
+pub mod Losses

@@ -46,6 +46,7 @@ pub fn scripts_are_events()
 
 /// What a sequential file holds after power returns is, from its start to its durable length, what it held, and no
 /// longer than its last issued append.
+#[tactic(auto, using(crate::proofs::Losses::power_losses_keep))]
 pub fn power_losses_keep()
     ensures { PowerLossesKeep }
 {}
