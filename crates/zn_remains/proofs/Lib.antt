@@ -22,3 +22,4 @@ pub mod Lines
 pub mod Steps
 pub mod Scripts
 pub mod Losses
+pub mod Worked

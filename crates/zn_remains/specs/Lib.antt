@@ -3,3 +3,4 @@ pub mod Remaining
 pub mod LineEvents
 pub mod Histories
 pub mod Laws
+pub mod Cases

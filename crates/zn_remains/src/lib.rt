@@ -2,4 +2,5 @@
 //! The statements stand in `specs/`.
 #![tactic(auto)]
 
+pub mod cases;
 pub mod laws;
