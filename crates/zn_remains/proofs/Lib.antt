@@ -23,3 +23,4 @@ pub mod Steps
 pub mod Scripts
 pub mod Losses
 pub mod Worked
+pub mod Fresh

@@ -11,11 +11,11 @@ use Rattle.zn_lines.specs.Session.{line_step}
 use Rattle.zn_lines.specs.Table.{Table}
 use Rattle.zn_remains.specs.Events.{Event, after_events, FitsIn}
 use Rattle.zn_remains.specs.Histories.{Carried, after_line, after_lines, events_of, AllMake, History}
-use Rattle.zn_remains.specs.Laws.{MayBegin, KeepThrough, HoldsAll, Synced, ScriptKeeps, PowerLossesKeep}
+use Rattle.zn_remains.specs.Laws.{KeepThrough, HoldsAll, Synced, ScriptKeeps, PowerLossesKeep}
 use Rattle.zn_remains.specs.Remaining.{StaysDurable, IsSequentialZone, IsAllDurable, spares}
 use Rattle.zn_remains.proofs.EventsKept.{All-front, kept_through}
 use Rattle.zn_remains.proofs.Lines.{Sits}
-use Rattle.zn_remains.proofs.Scripts.{made_world, made_fit, begins, history}
+use Rattle.zn_remains.proofs.Scripts.{made_world, made_fit, session_sits, history}
 use Rattle.zn_remains.proofs.Standing.{Stands, stands_events, sequential_later}
 use Rattle.zn_remains.proofs.Syncs.{sync_durable}
 
@@ -114,4 +114,6 @@ script_keeps g givens tail table n bytes is limits sits =
     }
 
 pub power_losses_keep : PowerLossesKeep
-power_losses_keep givens tail table n bytes may = script_keeps (geometry_of table.world) givens tail table n bytes refl may.limits (begins table may)
+power_losses_keep givens tail table n bytes session =
+    let sits = session_sits table session in
+    script_keeps (geometry_of session.begun.world) givens tail table n bytes sits.stands.geometry session.may.limits sits

@@ -19,7 +19,7 @@ use Rattle.zn_lines.specs.Table.{Table}
 use Rattle.zn_lines.specs.Transcript.{Transcript, stop, first_given, more_given, line_then, last_piece, transcript_from, pieces, transcript_at}
 use Rattle.zn_remains.specs.Events.{Event, after_events, FitsIn}
 use Rattle.zn_remains.specs.Histories.{with_read, last_line, lines_in, Carried, after_line, after_lines, events_of, AreEventsOf, AllMake, History}
-use Rattle.zn_remains.specs.Laws.{MayBegin, ScriptsAreEvents}
+use Rattle.zn_remains.specs.Laws.{MayBegin, led_by, IsSession, ScriptsAreEvents}
 use Rattle.zn_remains.specs.LineEvents.{Makes}
 use Rattle.zn_remains.proofs.Lines.{Sits, AgreesIf}
 use Rattle.zn_remains.proofs.Standing.{after-append}
@@ -96,12 +96,22 @@ made_fit g table (c ∷ carried) made =
 
 -- ---- whole runs
 
-pub begins : (table : Table) → MayBegin table → Sits (geometry_of table.world) table
+begins : (table : Table) → MayBegin table → Sits (geometry_of table.world) table
 begins table may = record {
   stands = record { sound = may.sound; geometry = refl };
   agrees = subst (AgreesIf (geometry_of table.world)) (sym may.unmounted) tt;
   entropy = may.entropy;
 }
+
+led_sits : (g : Geometry) (limits : IsWithinLimits g) (table : Table) (lines : List (List ℕ × Line)) → Sits g table → Sits g (led_by table lines)
+led_sits g limits table [] sits = sits
+led_sits g limits table (line ∷ lines) sits = led_sits g limits (line_step line.0 table line.1).table lines (sits_after g limits line.0 table sits line.1)
+
+-- a session that lines have led to
+pub session_sits : (table : Table) (session : IsSession table) → Sits (geometry_of session.begun.world) table
+session_sits table session =
+    let g = geometry_of session.begun.world in
+    subst (Sits g) (sym session.led) (led_sits g session.may.limits session.begun session.lines (begins session.begun session.may))
 
 pub history : (g : Geometry) (givens : List (List ℕ)) (tail : Tail) (table : Table) (n : ℕ) (bytes : List ℕ) → geometry_of table.world ≡ g → IsWithinLimits g → Sits g table → History givens tail table n bytes
 history g givens tail table n bytes is limits sits =
@@ -115,4 +125,6 @@ history g givens tail table n bytes is limits sits =
     }
 
 pub scripts_are_events : ScriptsAreEvents
-scripts_are_events givens tail table n bytes may = history (geometry_of table.world) givens tail table n bytes refl may.limits (begins table may)
+scripts_are_events givens tail table n bytes session =
+    let sits = session_sits table session in
+    history (geometry_of session.begun.world) givens tail table n bytes sits.stands.geometry session.may.limits sits

@@ -1,13 +1,15 @@
 -- Laws over whole scripts: what sequential zones hold after losses of power. (own)
-use Rattle.std.specs.Prelude.{◌≡◌, ℕ, ◌*◌, ◌≤◌, true, false, List, [], ◌∷◌, ◌++◌, length, take, None}
+use Rattle.std.specs.Prelude.{◌≡◌, ℕ, ◌*◌, ◌≤◌, true, false, List, [], ◌∷◌, ◌++◌, length, take, fold, Some, None}
 use Rattle.std.specs.List.{All}
 use Rattle.zn_truth.specs.declared.limits.TheConstants.{BLOCK_SIZE}
 use Rattle.zn_truth.specs.Limits.{IsWithinLimits}
 use Rattle.zn_truth.specs.Truth.{Zone, IsSound, zone_at}
 use Rattle.zn_truth.specs.World.{World, geometry_of}
 use Rattle.zn_lines.specs.declared.runs.Tail.{Tail}
-use Rattle.zn_lines.specs.Lines.{SyncFile}
+use Rattle.zn_lines.specs.declared.words.Scratch.{Scratch}
+use Rattle.zn_lines.specs.Lines.{Line, SyncFile}
 use Rattle.zn_lines.specs.ReplyTexts.{ok_text}
+use Rattle.zn_lines.specs.Scratch.{command_of, scratch_table}
 use Rattle.zn_lines.specs.Table.{Table}
 use Rattle.zn_lines.specs.Session.{line_step}
 use Rattle.zn_remains.specs.Events.{Event, PowerBack, after_events, FitsIn, PowerGoes}
@@ -22,9 +24,20 @@ pub record MayBegin (table : Table) : Type 0 where
   pub limits : IsWithinLimits (geometry_of table.world)
   pub entropy : length table.entropy ≡ 16
 
+-- the table after lines, each with what its reads gave
+abbrev pub led_by : Table → List (List ℕ × Line) → Table
+led_by table lines = fold (λ table line. (line_step line.0 table line.1).table) table lines
+
+-- A session that lines have led to, if any, from one that may begin.
+pub record IsSession (table : Table) : Type 0 where
+  pub begun : Table
+  pub may : MayBegin begun
+  pub lines : List (List ℕ × Line)
+  pub led : table ≡ led_by begun lines
+
 -- All that a script does to the device is a list of events, line by line.
 abbrev pub ScriptsAreEvents : Type 0
-ScriptsAreEvents = (givens : List (List ℕ)) (tail : Tail) (table : Table) (n : ℕ) (bytes : List ℕ) → MayBegin table → History givens tail table n bytes
+ScriptsAreEvents = (givens : List (List ℕ)) (tail : Tail) (table : Table) (n : ℕ) (bytes : List ℕ) → IsSession table → History givens tail table n bytes
 
 -- ---- events one after another
 
@@ -77,4 +90,9 @@ pub record ScriptKeeps (givens : List (List ℕ)) (tail : Tail) (table : Table) 
 -- What a sequential file holds after power returns is, from its start to its durable length, what it held, and no longer
 -- than its last issued append: over every script.
 abbrev pub PowerLossesKeep : Type 0
-PowerLossesKeep = (givens : List (List ℕ)) (tail : Tail) (table : Table) (n : ℕ) (bytes : List ℕ) → MayBegin table → ScriptKeeps givens tail table n bytes
+PowerLossesKeep = (givens : List (List ℕ)) (tail : Tail) (table : Table) (n : ℕ) (bytes : List ℕ) → IsSession table → ScriptKeeps givens tail table n bytes
+
+-- so too of every script that the command `scratch` runs
+abbrev pub ScratchKeeps : Type 0
+ScratchKeeps = (words : List (List ℕ)) (s : Scratch) (entropy : List ℕ) (givens : List (List ℕ)) (tail : Tail) (n : ℕ) (bytes : List ℕ)
+    → command_of words ≡ Some s → length entropy ≡ 16 → ScriptKeeps givens tail (scratch_table s entropy) n bytes

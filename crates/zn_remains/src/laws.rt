@@ -1,6 +1,6 @@
 // Laws of losses of power over whole scripts, each the contract of a function that does nothing.
 ghost use Rattle.zn_remains.specs.Remaining.{DarkStays, DurableStays, FlushMakesDurable, LossKeeps};
-ghost use Rattle.zn_remains.specs.Laws.{EventsKeep, PowerLossesKeep, ScriptsAreEvents, SyncMakesDurable};
+ghost use Rattle.zn_remains.specs.Laws.{EventsKeep, PowerLossesKeep, ScratchKeeps, ScriptsAreEvents, SyncMakesDurable};
 
 /// Where the power goes each sequential zone keeps what was durable, and ends no later than its last issued append.
 #[tactic(auto, using(crate::proofs::Remains::loss_keeps))]
@@ -49,4 +49,10 @@ pub fn scripts_are_events()
 #[tactic(auto, using(crate::proofs::Losses::power_losses_keep))]
 pub fn power_losses_keep()
     ensures { PowerLossesKeep }
+{}
+
+/// So too over every script that the command `scratch` runs.
+#[tactic(auto, using(crate::proofs::Fresh::scratch_keeps))]
+pub fn scratch_keeps()
+    ensures { ScratchKeeps }
 {}
