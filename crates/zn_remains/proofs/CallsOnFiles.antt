@@ -29,7 +29,7 @@ use Rattle.zn_model.specs.Truncating.{truncate_at_once, truncate_orders, truncat
 use Rattle.zn_model.specs.Writing.{area_of, grown, grown_volume, write_at_once, write_orders, after_write, write_now, write_by, write_call}
 use Rattle.zn_model.specs.CallAnswers.{as_refused}
 use Rattle.zn_model.proofs.KeysKept.{unless_holds, with_power_holds}
-use Rattle.zn_remains.specs.LineEvents.{IsOrderOf, in_file, in_live}
+use Rattle.zn_remains.specs.LineEvents.{IsOrderOf, truncates, in_file, in_live}
 use Rattle.zn_remains.proofs.Agreement.{Agrees, IsRequestFor, Fewer, agrees_changed, no_fewer, none_waits, waiting_bytes}
 use Rattle.zn_remains.proofs.Areas.{IsFileIn, LiesIn, reads_fit, writes_fit, read_lies, write_lies}
 use Rattle.zn_remains.proofs.CallOrders.{OrdersOf, Has, one_went, all_went, failed_went}
@@ -165,11 +165,12 @@ write_went g m h offset bytes stands agrees =
 
 -- ---- truncate
 
-abbrev pub truncate_commands : List Command
-truncate_commands = Reset ∷ Open ∷ Finish ∷ Report ∷ []
+abbrev TruncateWent : Geometry → Bool → (ℕ → Bool) → World → Mounted → Type 0
+TruncateWent g empty zones w after = Went g (OrdersOf g (truncates empty) zones) w after
 
-abbrev TruncateWent : Geometry → (ℕ → Bool) → World → Mounted → Type 0
-TruncateWent g zones w after = Went g (OrdersOf g truncate_commands zones) w after
+reports_too : (empty : Bool) → Has (truncates empty) Report
+reports_too true = refl
+reports_too false = refl
 
 -- an order to manage the zone of a sequential file
 pub manages : (g : Geometry) (commands : List Command) (v : Volume) (f : ℕ) (op : ZoneOp) → VolumeAgrees g v → (file_at v.inodes f).seq ≡ true → Has commands (command_of_op op) → IsOrderOf g commands (in_file v f) (Manage (file_at v.inodes f).first op)
@@ -184,14 +185,14 @@ manages g commands v f op agrees seq has =
     first_in : (first zones : ℕ) → 0 < zones → (nat_le first first && nat_lt first (first + zones)) ≡ true
     first_in first zones some = grind (arith, nat_tests)
 
-opens_too : (g : Geometry) (v : Volume) (f : ℕ) (held : Bool) → VolumeAgrees g v → (file_at v.inodes f).seq ≡ true → All (IsOrderOf g truncate_commands (in_file v f)) (if held then Manage (file_at v.inodes f).first do_open ∷ [] else [])
-opens_too g v f true agrees seq = All-cons (IsOrderOf g truncate_commands (in_file v f)) (Manage (file_at v.inodes f).first do_open) [] (manages g truncate_commands v f do_open agrees seq refl) (All-nil (IsOrderOf g truncate_commands (in_file v f)))
-opens_too g v f false agrees seq = All-nil (IsOrderOf g truncate_commands (in_file v f))
+opens_too : (g : Geometry) (v : Volume) (f : ℕ) (held : Bool) → VolumeAgrees g v → (file_at v.inodes f).seq ≡ true → All (IsOrderOf g (truncates true) (in_file v f)) (if held then Manage (file_at v.inodes f).first do_open ∷ [] else [])
+opens_too g v f true agrees seq = All-cons (IsOrderOf g (truncates true) (in_file v f)) (Manage (file_at v.inodes f).first do_open) [] (manages g (truncates true) v f do_open agrees seq refl) (All-nil (IsOrderOf g (truncates true) (in_file v f)))
+opens_too g v f false agrees seq = All-nil (IsOrderOf g (truncates true) (in_file v f))
 
 truncates_are : (g : Geometry) (v : Volume) (f : ℕ) (empty : Bool) → VolumeAgrees g v → (file_at v.inodes f).seq ≡ true
-    → All (IsOrderOf g truncate_commands (in_file v f)) (if empty then Manage (file_at v.inodes f).first do_reset ∷ (if (shown_at v.inodes f).held_open then Manage (file_at v.inodes f).first do_open ∷ [] else []) else Manage (file_at v.inodes f).first do_finish ∷ [])
-truncates_are g v f true agrees seq = All-cons (IsOrderOf g truncate_commands (in_file v f)) (Manage (file_at v.inodes f).first do_reset) _ (manages g truncate_commands v f do_reset agrees seq refl) (opens_too g v f (shown_at v.inodes f).held_open agrees seq)
-truncates_are g v f false agrees seq = All-cons (IsOrderOf g truncate_commands (in_file v f)) (Manage (file_at v.inodes f).first do_finish) [] (manages g truncate_commands v f do_finish agrees seq refl) (All-nil (IsOrderOf g truncate_commands (in_file v f)))
+    → All (IsOrderOf g (truncates empty) (in_file v f)) (if empty then Manage (file_at v.inodes f).first do_reset ∷ (if (shown_at v.inodes f).held_open then Manage (file_at v.inodes f).first do_open ∷ [] else []) else Manage (file_at v.inodes f).first do_finish ∷ [])
+truncates_are g v f true agrees seq = All-cons (IsOrderOf g (truncates true) (in_file v f)) (Manage (file_at v.inodes f).first do_reset) _ (manages g (truncates true) v f do_reset agrees seq refl) (opens_too g v f (shown_at v.inodes f).held_open agrees seq)
+truncates_are g v f false agrees seq = All-cons (IsOrderOf g (truncates false) (in_file v f)) (Manage (file_at v.inodes f).first do_finish) [] (manages g (truncates false) v f do_finish agrees seq refl) (All-nil (IsOrderOf g (truncates false) (in_file v f)))
 
 truncated_agrees : (g : Geometry) (v : Volume) (f size : ℕ) → VolumeAgrees g v → IsTruncateFor v f size → VolumeAgrees g (truncated_volume v f size)
 truncated_agrees g v f size agrees is =
@@ -201,32 +202,32 @@ truncated_agrees g v f size agrees is =
     (λ held. agrees.held f (held_before shown.held_open (size == capacity_of v.inodes.shape (file_at v.inodes f)) held))
     (no_fewer v.queue.queued) agrees.waiting
 
-after_truncate_went : (g : Geometry) (reply : Reply) (m : Mounted) (f size : ℕ) → Stands g m.world → VolumeAgrees g m.volume → IsTruncateFor m.volume f size → TruncateWent g (in_file m.volume f) m.world (after_truncate reply m f size).mounted
-after_truncate_went g (Ok unit) m f size stands agrees is = record { reached = reached_none (OrdersOf g truncate_commands (in_file m.volume f)) m.world; agrees = truncated_agrees g m.volume f size agrees is }
-after_truncate_went g (Err error) m f size stands agrees is = failed_went g truncate_commands (in_file m.volume f) false error m f refl stands agrees
+after_truncate_went : (g : Geometry) (empty : Bool) (reply : Reply) (m : Mounted) (f size : ℕ) → Stands g m.world → VolumeAgrees g m.volume → IsTruncateFor m.volume f size → TruncateWent g empty (in_file m.volume f) m.world (after_truncate reply m f size).mounted
+after_truncate_went g empty (Ok unit) m f size stands agrees is = record { reached = reached_none (OrdersOf g (truncates empty) (in_file m.volume f)) m.world; agrees = truncated_agrees g m.volume f size agrees is }
+after_truncate_went g empty (Err error) m f size stands agrees is = failed_went g (truncates empty) (in_file m.volume f) false error m f (reports_too empty) stands agrees
 
-truncate_now_went : (g : Geometry) (m : Mounted) (f size : ℕ) → Stands g m.world → VolumeAgrees g m.volume → IsTruncateFor m.volume f size → TruncateWent g (in_file m.volume f) m.world (truncate_now m f size).mounted
+truncate_now_went : (g : Geometry) (m : Mounted) (f size : ℕ) → Stands g m.world → VolumeAgrees g m.volume → IsTruncateFor m.volume f size → TruncateWent g (size == 0) (in_file m.volume f) m.world (truncate_now m f size).mounted
 unfolding truncate_now
 truncate_now_went g m f size stands agrees is =
     let orders = truncate_orders (file_at m.volume.inodes f) (shown_at m.volume.inodes f) size in
     let done = issue_all m.world orders in
-    all_went g truncate_commands (in_file m.volume f) m.world orders (after_truncate done.reply (record m { world = done.world }) f size).mounted stands
+    all_went g (truncates (size == 0)) (in_file m.volume f) m.world orders (after_truncate done.reply (record m { world = done.world }) f size).mounted stands
     (truncates_are g m.volume f (size == 0) agrees is.seq)
-    (λ later. after_truncate_went g done.reply (record m { world = done.world }) f size later agrees is)
+    (λ later. after_truncate_went g (size == 0) done.reply (record m { world = done.world }) f size later agrees is)
 
-truncate_by_went : (g : Geometry) (found : Option Live) (m : Mounted) (size : ℕ) → Stands g m.world → VolumeAgrees g m.volume → TruncateWent g (in_live m.volume found) m.world (truncate_by found m size).mounted
-truncate_by_went g None m size stands agrees = went_nowhere g (OrdersOf g truncate_commands (in_live m.volume None)) m agrees
+truncate_by_went : (g : Geometry) (found : Option Live) (m : Mounted) (size : ℕ) → Stands g m.world → VolumeAgrees g m.volume → TruncateWent g (size == 0) (in_live m.volume found) m.world (truncate_by found m size).mounted
+truncate_by_went g None m size stands agrees = went_nowhere g (OrdersOf g (truncates (size == 0)) (in_live m.volume None)) m agrees
 truncate_by_went g (Some live) m size stands agrees =
-    unless_if (TruncateWent g (in_file m.volume live.file) m.world) (truncate_at_once m.volume live size) m (truncate_now m live.file size)
-    (went_nowhere g (OrdersOf g truncate_commands (in_file m.volume live.file)) m agrees)
+    unless_if (TruncateWent g (size == 0) (in_file m.volume live.file) m.world) (truncate_at_once m.volume live size) m (truncate_now m live.file size)
+    (went_nowhere g (OrdersOf g (truncates (size == 0)) (in_file m.volume live.file)) m agrees)
     (λ none. truncate_now_went g m live.file size stands agrees (truncate_passed m.volume live size none))
 
-pub truncate_went : (g : Geometry) (m : Mounted) (h : Handle) (size : ℕ) → Stands g m.world → VolumeAgrees g m.volume → TruncateWent g (in_live m.volume (live_at m.volume.handles h)) m.world (truncate_call m h size).mounted
+pub truncate_went : (g : Geometry) (m : Mounted) (h : Handle) (size : ℕ) → Stands g m.world → VolumeAgrees g m.volume → TruncateWent g (size == 0) (in_live m.volume (live_at m.volume.handles h)) m.world (truncate_call m h size).mounted
 unfolding truncate_call
 truncate_went g m h size stands agrees =
     let found = live_at m.volume.handles h in
-    with_power_holds (TruncateWent g (in_live m.volume found) m.world) m (truncate_by found m size)
-    (went_nowhere g (OrdersOf g truncate_commands (in_live m.volume found)) m agrees) (truncate_by_went g found m size stands agrees)
+    with_power_holds (TruncateWent g (size == 0) (in_live m.volume found) m.world) m (truncate_by found m size)
+    (went_nowhere g (OrdersOf g (truncates (size == 0)) (in_live m.volume found)) m agrees) (truncate_by_went g found m size stands agrees)
 
 -- ---- sync
 

@@ -1,6 +1,6 @@
 -- Each line makes events of its own that lead to what it leaves.
 use Rattle.std.proofs.Common.{◌≡◌, ℕ, Bool, true, false, List, [], ◌∷◌, length, Option, Some, None, Result, Ok, Err, refl, sym, ap, ◌∙◌, subst}
-use Rattle.std.specs.Prelude.{codes, if◌then◌else◌, is_some, IfSome}
+use Rattle.std.specs.Prelude.{codes, if◌then◌else◌, is_some, IfSome, ◌==◌}
 use Rattle.std.specs.List.{All}
 use Rattle.std.proofs.lemmas.List.Elements.{All-nil, All-cons, All-weaker}
 use Rattle.zn_truth.specs.Inject.{Injected, inject, turn, lose_power, arm_loss, power_on}
@@ -21,9 +21,9 @@ use Rattle.zn_lines.specs.ReplyTexts.{plain, reply_text, refusal_name, number_te
 use Rattle.zn_lines.specs.Session.{Stepped, says_error, opens, open_line, close_line, unmounts, names_in, features_in, options_in, list_line, line_now, line_step, dropped_unless}
 use Rattle.zn_lines.specs.Table.{Table, handle_of, with_mounted}
 use Rattle.zn_remains.specs.Events.{Event, Ordered, FaultAsked, Turned, PowerLost, LossArmed, PowerBack, after_event, after_events, FitsIn}
-use Rattle.zn_remains.specs.LineEvents.{Makes, asked_by, commands_of, may_name, in_found, in_first}
+use Rattle.zn_remains.specs.LineEvents.{Makes, truncates, asked_by, commands_of, may_name, in_found, in_first}
 use Rattle.zn_remains.proofs.CallOrders.{OrdersOf, orders_fit}
-use Rattle.zn_remains.proofs.CallsOnFiles.{read_commands, write_commands, truncate_commands, sync_commands, read_went, write_went, truncate_went, sync_went}
+use Rattle.zn_remains.proofs.CallsOnFiles.{read_commands, write_commands, sync_commands, read_went, write_went, truncate_went, sync_went}
 use Rattle.zn_remains.proofs.CallsOnHandles.{open_commands, close_commands, open_went, close_went}
 use Rattle.zn_remains.proofs.CallsOnRequests.{submit_went, complete_went, reap_went}
 use Rattle.zn_remains.proofs.Looking.{size_went, stat_went, entries_went, attr_went}
@@ -112,7 +112,7 @@ module _ (g : Geometry) (limits : IsWithinLimits g) (given : List ℕ) (table : 
   now_led (WriteTo n offset runs) = by_orders g table (WriteTo n offset runs) _ refl
       (handle_then_led g write_commands table sits n _ (λ v h agrees. led_told g _ table sits plain (write_call (on v) h offset (bytes_of runs)) (write_went g (on v) h offset (bytes_of runs) sits.stands agrees)))
   now_led (TruncateTo n size) = by_orders g table (TruncateTo n size) _ refl
-      (handle_then_led g truncate_commands table sits n _ (λ v h agrees. led_told g _ table sits plain (truncate_call (on v) h size) (truncate_went g (on v) h size sits.stands agrees)))
+      (handle_then_led g (truncates (size == 0)) table sits n _ (λ v h agrees. led_told g _ table sits plain (truncate_call (on v) h size) (truncate_went g (on v) h size sits.stands agrees)))
   now_led (SyncFile n) = by_orders g table (SyncFile n) _ refl
       (any_handle_led g sync_commands table sits n _ (λ z. false) (λ v h agrees. led_told g _ table sits plain (sync_call (on v) h) (sync_went g (on v) h sits.stands agrees)))
   now_led (SubmitTo n offset runs) = by_orders g table (SubmitTo n offset runs) _ refl

@@ -16,6 +16,11 @@ use Rattle.zn_remains.specs.Events.{Event, Ordered, FaultAsked, Turned, PowerLos
 
 -- ---- the commands of a line
 
+-- a truncate to 0 empties the file, and opens it again where it is held open; any other fills it
+abbrev pub truncates : Bool → List Command
+truncates true = Reset ∷ Open ∷ Report ∷ []
+truncates false = Finish ∷ Report ∷ []
+
 -- The commands that a line may issue to the device. Each call on a file may end in a report of the file's zones.
 abbrev pub commands_of : Line → List Command
 commands_of (Mkfs words) = Report ∷ Read ∷ Write ∷ Flush ∷ Reset ∷ Finish ∷ []
@@ -24,7 +29,7 @@ commands_of (OpenFile n path mode who) = Open ∷ Report ∷ []
 commands_of (CloseFile n) = Close ∷ Report ∷ []
 commands_of (ReadFrom n offset len) = Read ∷ Report ∷ []
 commands_of (WriteTo n offset runs) = Write ∷ Report ∷ []
-commands_of (TruncateTo n size) = Reset ∷ Open ∷ Finish ∷ Report ∷ []
+commands_of (TruncateTo n size) = truncates (size == 0)
 commands_of (SyncFile n) = Flush ∷ Report ∷ []
 commands_of Complete = Write ∷ Report ∷ []
 commands_of Zones = Report ∷ []
