@@ -119,9 +119,10 @@ module _ (g : Geometry) (file : FileZones) (is : IsFileIn g file) where
       let inside = part_inside a file.zones i touch in
       let size = length_part bytes (piece a i).before (piece a i).blocks (omega (arith, inside, whole)) in
       let fits = part_fits g file a i is lies touch in
-      let count : length (blocks_of bytes (piece a i).before (piece a i).blocks) / 4096 ≡ (piece a i).blocks = omega (arith, size) in
-      (whole_part bytes (piece a i).before (piece a i).blocks (omega (arith, inside, whole)) (part_some a file.zones i touch),
-      subst (λ (n : ℕ). Fits g (piece a i).zone (piece a i).at n) (sym count) fits)
+      let count : length (blocks_of bytes (piece a i).before (piece a i).blocks) / 4096 ≡ (piece a i).blocks = omega (arith, size) in (
+        whole_part bytes (piece a i).before (piece a i).blocks (omega (arith, inside, whole)) (part_some a file.zones i touch),
+        subst (λ (n : ℕ). Fits g (piece a i).zone (piece a i).at n) (sym count) fits,
+      )
 
   pub writes_fit : (P : Order → Type 0) → ((z at : ℕ) (bytes : List ℕ) → IsOrderFor g (WriteAt z at bytes) → has_zone z file ≡ true → P (WriteAt z at bytes)) → (a : Area) (bytes : List ℕ) → LiesIn g file a → 4096 * a.blocks ≡ length bytes
       → All P (writes a bytes)

@@ -42,9 +42,9 @@ returned : (w : World) (event : Event) (dark : List Event) → IsSound w.truth �
 returned w event dark sound fits goes is_dark_all =
     let v = after_event w event in
     let same : (after_events v (dark ++ PowerBack ∷ [])).truth ≡ v.truth =
-        ap (λ (u : World). u.truth) (after-append v dark (PowerBack ∷ []))
-        ∙ dark_stays.truth (after_events v dark) PowerBack (dark_off v dark goes.off is_dark_all)
-        ∙ dark_truth v dark goes.off is_dark_all in
+    ap (λ (u : World). u.truth) (after-append v dark (PowerBack ∷ []))
+    ∙ dark_stays.truth (after_events v dark) PowerBack (dark_off v dark goes.off is_dark_all)
+    ∙ dark_truth v dark goes.off is_dark_all in
     subst (λ (t : Truth). AllRemain w.truth event t) (sym same) (loss_keeps w event sound fits goes)
 
 -- ---- what is durable

@@ -24,3 +24,4 @@ pub mod Scripts
 pub mod Losses
 pub mod Worked
 pub mod Fresh
+pub mod FilesShown

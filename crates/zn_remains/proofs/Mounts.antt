@@ -80,8 +80,8 @@ sequential_is Conventional is = absurd (true≢false (sym is))
 pub chosen_zones : (P : Order → Type 0) (order : ℕ → Order) (test : ℕ → Bool) (n : ℕ) → ((z : ℕ) → test z ≡ true → z < n → P (order z)) → All P (map order (filter test (range_with_len 0 n)))
 chosen_zones P order test n gives =
     let below : All (λ z. z < n) (range_with_len 0 n) = λ k d inside.
-        let within : k < n = omega (arith, length-range_with_len 0 n) in
-        subst (λ (z : ℕ). z < n) (sym (get_or-range_with_len 0 n k d within)) (omega arith) in
+    let within : k < n = omega (arith, length-range_with_len 0 n) in
+    subst (λ (z : ℕ). z < n) (sym (get_or-range_with_len 0 n k d within)) (omega arith) in
     All-map P order (filter test (range_with_len 0 n)) (λ k d inside.
     gives (get_or (filter test (range_with_len 0 n)) k d) (filter_passes test (range_with_len 0 n) k d inside) (All-filter test (λ z. z < n) (range_with_len 0 n) below k d inside))
 
@@ -128,10 +128,10 @@ fresh_agrees g w aggr stands =
     let layout = layout_of g.kinds aggr in
     let inodes = fresh_inodes w.truth layout in
     let size : (f : ℕ) → (shown_at inodes f).size ≤ capacity_at inodes f = λ f. fresh_cases (λ (s : Shown). s.size ≤ capacity_at inodes f) w.truth layout f (omega arith)
-        (let file = get_or (files_of layout) f no_file in
-        let within = holds_file g w file stands (layout_file g aggr f) in
-        let room : room_of w.truth.shape file ≡ room_of g.shape file = ap (λ (s : Shape). room_of s file) (shape_is g w stands) in
-        mounted_size (worst (infos_of w.truth file)) (4096 * holds (infos_of w.truth file)) (capacity_at inodes f) (omega (arith, within, room))) in
+    (let file = get_or (files_of layout) f no_file in
+    let within = holds_file g w file stands (layout_file g aggr f) in
+    let room : room_of w.truth.shape file ≡ room_of g.shape file = ap (λ (s : Shape). room_of s file) (shape_is g w stands) in
+    mounted_size (worst (infos_of w.truth file)) (4096 * holds (infos_of w.truth file)) (capacity_at inodes f) (omega (arith, within, room))) in
     record {
       files = layout_file g aggr;
       shape = shape_is g w stands;

@@ -39,9 +39,9 @@ holds_range t most first zero each = omega arith
 holds_range t most first (suc n) each =
     let here : (info_at t first).held ≤ most = subst (λ (z : ℕ). (info_at t z).held ≤ most) (add-zero first) (each 0 (omega arith)) in
     let rest : holds (map (info_at t) (range_with_len (first + 1) n)) ≤ n * most =
-        holds_range t most (first + 1) n (λ i below. let e : first + (i + 1) ≡ first + 1 + i = omega arith in subst (λ (z : ℕ). (info_at t z).held ≤ most) e (each (i + 1) (omega arith))) in
+    holds_range t most (first + 1) n (λ i below. let e : first + (i + 1) ≡ first + 1 + i = omega arith in subst (λ (z : ℕ). (info_at t z).held ≤ most) e (each (i + 1) (omega arith))) in
     let parts : holds (info_at t first ∷ map (info_at t) (range_with_len (first + 1) n)) ≡ (info_at t first).held + holds (map (info_at t) (range_with_len (first + 1) n)) =
-        sum_by-cons (λ (info : ZoneInfo). info.held) (info_at t first) (map (info_at t) (range_with_len (first + 1) n)) in
+    sum_by-cons (λ (info : ZoneInfo). info.held) (info_at t first) (map (info_at t) (range_with_len (first + 1) n)) in
     let more : suc n * most ≡ n * most + most = suc-mul n most in
     omega (arith, here, rest, parts, more)
 
@@ -57,7 +57,7 @@ holds_file g w file stands is = holds_range w.truth (zone_room_of g.shape file) 
     let most = (stands.sound.zones (file.first + i) there).held in
     let kind : (zone_at w.truth (file.first + i)).kind ≡ kind_at g (file.first + i) = sym (kind_is w (file.first + i)) ∙ ap (λ (h : Geometry). kind_at h (file.first + i)) stands.geometry in
     let same : room w.truth.shape (zone_at w.truth (file.first + i)).kind ≡ zone_room_of g.shape file =
-        ap (λ (s : Shape). room s (zone_at w.truth (file.first + i)).kind) (shape_is g w stands) ∙ ap (λ (k : Kind). room g.shape k) (kind ∙ is.kinds i below) in
+    ap (λ (s : Shape). room s (zone_at w.truth (file.first + i)).kind) (shape_is g w stands) ∙ ap (λ (k : Kind). room g.shape k) (kind ∙ is.kinds i below) in
     omega (arith, most, same))
 
 -- ---- what is found

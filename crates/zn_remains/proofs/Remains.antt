@@ -104,7 +104,7 @@ write_remains : (t new : Truth) (z y at : ℕ) (bytes : List ℕ) → IsSound t 
     → Remains t.told t.shape z (Ordered (WriteAt y at bytes)) (zone_at t z) (zone_at new z)
 write_remains t new z y at bytes sound is loss = lost_with t new z y _ (Ordered (WriteAt y at bytes)) sound is loss (λ same struck.
     let at_z : placed (zone_at t y).kind (zone_at t y) at bytes ≡ placed Sequential (zone_at t z) at bytes =
-        ap (λ (n : ℕ). placed (zone_at t n).kind (zone_at t n) at bytes) same ∙ ap (λ (k : Kind). placed k (zone_at t z) at bytes) is.kind in
+    ap (λ (n : ℕ). placed (zone_at t n).kind (zone_at t n) at bytes) same ∙ ap (λ (k : Kind). placed k (zone_at t z) at bytes) is.kind in
     remains_of t.told t.shape z (Ordered (WriteAt y at bytes)) (zone_at t z) (seen t.told (placed Sequential (zone_at t z) at bytes)) (zone_at new z) is.kind refl
     (placed_stays t.told (zone_at t z) at bytes (fit_at t z sound is)) (written_end t.shape y z at bytes (zone_at t z) same)
     (subst (λ (v : Zone). IsZoneLoss t.told (seen t.told v) (zone_at new z)) at_z struck))

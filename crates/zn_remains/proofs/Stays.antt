@@ -48,7 +48,7 @@ stays_with t z y zone is here = elim (cases_eq y z) [
 write_stays : (t : Truth) (z y at : ℕ) (bytes : List ℕ) → IsSound t → IsSequentialZone t z → ZoneStays t z (effect t (WriteAt y at bytes))
 write_stays t z y at bytes sound is = stays_with t z y _ is (λ same.
     let at_z : written Sequential t.shape (zone_at t z) at bytes ≡ written (zone_at t y).kind t.shape (zone_at t y) at bytes =
-        sym (ap (λ (n : ℕ). written (zone_at t n).kind t.shape (zone_at t n) at bytes) same ∙ ap (λ (k : Kind). written k t.shape (zone_at t z) at bytes) is.kind) in
+    sym (ap (λ (n : ℕ). written (zone_at t n).kind t.shape (zone_at t n) at bytes) same ∙ ap (λ (k : Kind). written k t.shape (zone_at t z) at bytes) is.kind) in
     subst (λ (v : Zone). StaysDurable (zone_at t z) (seen t.told v)) at_z (written_stays t.told t.shape (zone_at t z) at bytes (fit_at t z sound is)))
 
 -- any order to manage a zone but one that empties it

@@ -5,7 +5,7 @@ use Rattle.std.specs.Fmt.{digits}
 use Rattle.zn_truth.specs.declared.Command.TheVariants.{Write}
 use Rattle.zn_truth.specs.Inject.{arm_loss, power_on}
 use Rattle.zn_truth.specs.OrderLists.{each_zone}
-use Rattle.zn_truth.specs.Orders.{done}
+use Rattle.zn_truth.specs.Orders.{WriteAt, done}
 use Rattle.zn_truth.specs.Power.{lost, during}
 use Rattle.zn_truth.specs.Truth.{geometry, zone_at, IsSoundZone}
 use Rattle.zn_truth.specs.World.{World, calm, geometry_of, issue, met, unmet}
@@ -24,7 +24,7 @@ use Rattle.zn_model.specs.Writing.{write_at_once, write_now, write_call}
 use Rattle.zn_model.specs.ZoneFiles.{layout_of, file_named}
 use Rattle.zn_lines.specs.Session.{line_now, line_step}
 use Rattle.zn_lines.specs.Table.{Table, no_numbers}
-use Rattle.zn_remains.specs.Events.{after_events}
+use Rattle.zn_remains.specs.Events.{Ordered, after_events, PowerGoes}
 use Rattle.zn_remains.specs.Laws.{MayBegin}
 use Rattle.zn_remains.specs.Histories.{after_line, after_lines, events_of}
 use Rattle.zn_remains.specs.Cases.{LossInWrite, LossInReset, LossInScript, formatted_zone, session, lines_before, lines_behind, mounts, opens, writes_first, syncs, writes_second, arms, writes_third, powers, device, holding, blocks, waiting, dark, cut_to_three, half_durable}
@@ -128,6 +128,10 @@ events_before : after_events session.world (events_of lines_before) ≡ waiting 
 unfolding issue met unmet done arm_loss
 events_before = refl
 
+power_goes : PowerGoes (after_events session.world (events_of lines_before)) (Ordered (WriteAt 1 2 (blocks 2 99)))
+unfolding issue met unmet done lost during arm_loss encoded zeros
+power_goes = record { on = refl; off = refl }
+
 events_after : after_events session.world (events_of (lines_before ++ lines_behind)) ≡ calm (device (holding 3 3 (blocks 1 97 ++ blocks 2 238)))
 unfolding issue met unmet done lost during arm_loss power_on encoded zeros
 events_after = refl
@@ -190,4 +194,4 @@ session_begins = record {
 }
 
 pub loss_in_script : LossInScript
-loss_in_script = record { begins = session_begins; before = world_before; events_before = events_before; after = world_after; events_after = events_after }
+loss_in_script = record { begins = session_begins; before = world_before; events_before = events_before; goes = power_goes; after = world_after; events_after = events_after }

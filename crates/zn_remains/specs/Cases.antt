@@ -16,7 +16,7 @@ use Rattle.zn_model.specs.SuperLaws.{example}
 use Rattle.zn_lines.specs.Grammar.{root}
 use Rattle.zn_lines.specs.Lines.{Mount, OpenFile, WriteTo, SyncFile, PowerLossIn, PowerOn}
 use Rattle.zn_lines.specs.Table.{Table, fresh_table}
-use Rattle.zn_remains.specs.Events.{Event, Ordered, LossArmed, PowerBack, after_event, after_events}
+use Rattle.zn_remains.specs.Events.{Event, Ordered, LossArmed, PowerBack, after_event, after_events, PowerGoes}
 use Rattle.zn_remains.specs.Histories.{Carried, after_lines, events_of}
 use Rattle.zn_remains.specs.Laws.{MayBegin}
 
@@ -119,10 +119,12 @@ powers = record { given = []; line = PowerOn; events = PowerBack ∷ [] }
 abbrev pub lines_behind : List Carried
 lines_behind = writes_third ∷ powers ∷ []
 
--- What the session's device holds before the power goes, and after it is back; and that the events of the lines lead there.
+-- What the session's device holds before the power goes, and after it is back; and that the events of the lines lead there,
+-- among them the one at which it goes.
 pub record LossInScript : Type 0 where
   pub begins : MayBegin session
   pub before : (after_lines session lines_before).world ≡ waiting (cut_to_three Write false) half_durable
   pub events_before : after_events session.world (events_of lines_before) ≡ waiting (cut_to_three Write false) half_durable
+  pub goes : PowerGoes (after_events session.world (events_of lines_before)) (Ordered (WriteAt 1 2 (blocks 2 99)))
   pub after : (after_lines session (lines_before ++ lines_behind)).world ≡ calm (device (holding 3 3 (blocks 1 97 ++ blocks 2 238)))
   pub events_after : after_events session.world (events_of (lines_before ++ lines_behind)) ≡ calm (device (holding 3 3 (blocks 1 97 ++ blocks 2 238)))

@@ -1,5 +1,6 @@
 // Laws of losses of power over whole scripts, each the contract of a function that does nothing.
 ghost use Rattle.zn_remains.specs.Remaining.{DarkStays, DurableStays, FlushMakesDurable, LossKeeps};
+ghost use Rattle.zn_remains.specs.Files.{FilesAreZones};
 ghost use Rattle.zn_remains.specs.Laws.{EventsKeep, PowerLossesKeep, ScratchKeeps, ScriptsAreEvents, SyncMakesDurable};
 
 /// Where the power goes each sequential zone keeps what was durable, and ends no later than its last issued append.
@@ -55,4 +56,10 @@ pub fn power_losses_keep()
 #[tactic(auto, using(crate::proofs::Fresh::scratch_keeps))]
 pub fn scratch_keeps()
     ensures { ScratchKeeps }
+{}
+
+/// Each sequential file is one zone, and a mount shows what that holds.
+#[tactic(auto, using(crate::proofs::FilesShown::files_are_zones))]
+pub fn files_are_zones()
+    ensures { FilesAreZones }
 {}
