@@ -9,16 +9,16 @@ use Rattle.zn_truth.specs.World.{World, geometry_of}
 use Rattle.zn_model.specs.Volume.{Volume}
 use Rattle.zn_lines.specs.declared.limits.TheConstants.{LINE_LIMIT}
 use Rattle.zn_lines.specs.declared.runs.Ending.{Ending}
-use Rattle.zn_lines.specs.declared.runs.Ending.TheVariants.{Finished, LineTooLong}
+use Rattle.zn_lines.specs.declared.runs.Ending.TheVariants.{Finished, BadLine, LineTooLong, ScriptTooLong, ReadFailed, Unread}
 use Rattle.zn_lines.specs.declared.runs.Tail.{Tail}
 use Rattle.zn_lines.specs.declared.runs.Tail.TheVariants.{End, Fault, Over, More}
 use Rattle.zn_lines.specs.Grammar.{reading_of}
 use Rattle.zn_lines.specs.Lines.{Line}
 use Rattle.zn_lines.specs.Session.{line_step}
 use Rattle.zn_lines.specs.Table.{Table}
-use Rattle.zn_lines.specs.Transcript.{Transcript, stop, first_given, more_given, line_then, last_piece, transcript_from, pieces, transcript_at}
+use Rattle.zn_lines.specs.Transcript.{Transcript, stop, with_text, first_given, more_given, line_then, last_piece, transcript_from, pieces, transcript_at}
 use Rattle.zn_remains.specs.Events.{Event, after_events, FitsIn}
-use Rattle.zn_remains.specs.Histories.{with_read, last_line, lines_in, Carried, after_line, after_lines, events_of, AreEventsOf, AllMake, History}
+use Rattle.zn_remains.specs.Histories.{with_read, last_line, lines_in, Carried, after_line, after_lines, replies, events_of, AreEventsOf, AllMake, History}
 use Rattle.zn_remains.specs.Laws.{MayBegin, led_by, IsSession, ScriptsAreEvents}
 use Rattle.zn_remains.specs.LineEvents.{Makes}
 use Rattle.zn_remains.proofs.Lines.{Sits, AgreesIf}
@@ -27,52 +27,54 @@ use Rattle.zn_remains.proofs.Steps.{line_led, sits_after, made_fits}
 
 -- ---- lines one after another
 
--- lines that were carried out lead from one table to another
-record Passed (g : Geometry) (table : Table) (lines : List Line) (after : Table) : Type 0 where
+-- lines that were carried out lead from a table to the end of a run
+record Passed (g : Geometry) (table : Table) (lines : List Line) (t : Transcript) : Type 0 where
   carried : List Carried
   same : map (λ (c : Carried). c.line) carried ≡ lines
   made : AllMake g table carried
-  ends : after ≡ after_lines table carried
+  text : t.text ≡ replies table carried
+  ends : t.table ≡ after_lines table carried
 
-passed_none : (g : Geometry) (table : Table) → Passed g table [] table
-passed_none g table = record { carried = []; same = refl; made = tt; ends = refl }
+passed_none : (g : Geometry) (table : Table) (ending : Ending) → Passed g table [] (stop table ending)
+passed_none g table ending = record { carried = []; same = refl; made = tt; text = refl; ends = refl }
 
 module _ (g : Geometry) (limits : IsWithinLimits g) where
   -- a line, and the lines behind it
-  passed_line : (given : List ℕ) (table : Table) (line : Line) (lines : List Line) (after : Table) → Sits g table → Passed g (line_step given table line).table lines after → Passed g table (line ∷ lines) after
-  passed_line given table line lines after sits rest =
+  passed_line : (given : List ℕ) (table : Table) (line : Line) (lines : List Line) (t : Transcript) → Sits g table → Passed g (line_step given table line).table lines t → Passed g table (line ∷ lines) (with_text (line_step given table line).text t)
+  passed_line given table line lines t sits rest =
       let led = line_led g limits given table sits line in
       let carried : Carried = record { given = given; line = line; events = led.events } in
       record {
         carried = carried ∷ rest.carried;
         same = ap (λ (ls : List Line). line ∷ ls) rest.same;
         made = (record { each = led.each; asked = led.asked; world = led.world }, rest.made);
+        text = ap (λ (text : List ℕ). (line_step given table line).text ++ text) rest.text;
         ends = rest.ends;
       }
 
-  then_passed : (given : List ℕ) (reading : Result (Option Line) ℕ) (table : Table) (n : ℕ) (follows : Table → Transcript) (lines : List Line) → Sits g table → ((after : Table) → Sits g after → Passed g after lines (follows after).table)
-      → Passed g table (with_read reading lines) (line_then given reading table n follows).table
-  then_passed given (Err column) table n follows lines sits each = passed_none g table
+  then_passed : (given : List ℕ) (reading : Result (Option Line) ℕ) (table : Table) (n : ℕ) (follows : Table → Transcript) (lines : List Line) → Sits g table → ((after : Table) → Sits g after → Passed g after lines (follows after))
+      → Passed g table (with_read reading lines) (line_then given reading table n follows)
+  then_passed given (Err column) table n follows lines sits each = passed_none g table (BadLine n column)
   then_passed given (Ok None) table n follows lines sits each = each table sits
   then_passed given (Ok (Some line)) table n follows lines sits each =
       let after = (line_step given table line).table in
-      passed_line given table line lines (follows after).table sits (each after (sits_after g limits given table sits line))
+      passed_line given table line lines (follows after) sits (each after (sits_after g limits given table sits line))
 
-  last_passed : (given : List ℕ) (tail : Tail) (table : Table) (n : ℕ) (piece : List ℕ) → Sits g table → Passed g table (last_line tail piece) (last_piece given tail table n piece).table
-  last_passed given End table n [] sits = passed_none g table
-  last_passed given End table n (b ∷ bytes) sits = then_passed given (reading_of (b ∷ bytes)) table n (λ after. stop after Finished) [] sits (λ after is. passed_none g after)
-  last_passed given Fault table n piece sits = passed_none g table
-  last_passed given Over table n piece sits = passed_none g table
-  last_passed given More table n piece sits = passed_none g table
+  last_passed : (given : List ℕ) (tail : Tail) (table : Table) (n : ℕ) (piece : List ℕ) → Sits g table → Passed g table (last_line tail piece) (last_piece given tail table n piece)
+  last_passed given End table n [] sits = passed_none g table Finished
+  last_passed given End table n (b ∷ bytes) sits = then_passed given (reading_of (b ∷ bytes)) table n (λ after. stop after Finished) [] sits (λ after is. passed_none g after Finished)
+  last_passed given Fault table n piece sits = passed_none g table ReadFailed
+  last_passed given Over table n piece sits = passed_none g table (ScriptTooLong n)
+  last_passed given More table n piece sits = passed_none g table Unread
 
   -- a line that is too long ends the run
-  unless_long : (b : Bool) (table : Table) (ending : Ending) (t : Transcript) (lines : List Line) → Passed g table lines t.table → Passed g table (if b then [] else lines) (if b then stop table ending else t).table
-  unless_long true table ending t lines passed = passed_none g table
+  unless_long : (b : Bool) (table : Table) (ending : Ending) (t : Transcript) (lines : List Line) → Passed g table lines t → Passed g table (if b then [] else lines) (if b then stop table ending else t)
+  unless_long true table ending t lines passed = passed_none g table ending
   unless_long false table ending t lines passed = passed
 
-  from_passed : (givens : List (List ℕ)) (tail : Tail) (table : Table) (n : ℕ) (parts : List (List ℕ)) → Sits g table → Passed g table (lines_in tail parts) (transcript_from givens tail table n parts).table
+  from_passed : (givens : List (List ℕ)) (tail : Tail) (table : Table) (n : ℕ) (parts : List (List ℕ)) → Sits g table → Passed g table (lines_in tail parts) (transcript_from givens tail table n parts)
   unfolding transcript_from lines_in
-  from_passed givens tail table n [] sits = passed_none g table
+  from_passed givens tail table n [] sits = passed_none g table Finished
   from_passed givens tail table n (piece ∷ []) sits =
       unless_long (nat_lt LINE_LIMIT (length piece)) table (LineTooLong n) (last_piece (first_given givens) tail table n piece) (last_line tail piece) (last_passed (first_given givens) tail table n piece sits)
   from_passed givens tail table n (line ∷ piece ∷ parts) sits =
@@ -120,6 +122,7 @@ history g givens tail table n bytes is limits sits =
       carried = passed.carried;
       lines = passed.same;
       made = subst (λ (h : Geometry). AllMake h table passed.carried) (sym is) passed.made;
+      text = passed.text;
       ends = passed.ends;
       world = ap (λ (t : Table). t.world) passed.ends ∙ made_world g table passed.carried passed.made;
     }

@@ -1,5 +1,5 @@
 -- The lines that a run carries out, each with the events that it makes. (own)
-use Rattle.std.specs.Prelude.{◌≡◌, ℕ, List, [], ◌∷◌, map, fold, nat_lt, length, if◌then◌else◌, Option, Some, None, IfSome, Result, Ok, Err}
+use Rattle.std.specs.Prelude.{◌≡◌, ℕ, List, [], ◌∷◌, ◌++◌, map, fold, nat_lt, length, if◌then◌else◌, Option, Some, None, IfSome, Result, Ok, Err}
 use Rattle.std.specs.List.{All, flat_map}
 use Rattle.zn_truth.specs.Truth.{Geometry}
 use Rattle.zn_truth.specs.World.{geometry_of}
@@ -52,6 +52,11 @@ after_line table carried = (line_step carried.given table carried.line).table
 abbrev pub after_lines : Table → List Carried → Table
 after_lines table lines = fold after_line table lines
 
+-- the replies of lines, one after another
+abbrev pub replies : Table → List Carried → List ℕ
+replies table [] = []
+replies table (carried ∷ lines) = (line_step carried.given table carried.line).text ++ replies (after_line table carried) lines
+
 -- all events of lines, in their order
 abbrev pub events_of : List Carried → List Event
 events_of lines = flat_map (λ carried. carried.events) lines
@@ -77,7 +82,9 @@ pub record History (givens : List (List ℕ)) (tail : Tail) (table : Table) (n :
   pub lines : map (λ carried. carried.line) carried ≡ lines_in tail (pieces bytes)
   -- each made its own events
   pub made : AllMake (geometry_of table.world) table carried
-  -- the run ends with the table that they lead to
+  -- the run wrote their replies
+  pub text : (transcript_at givens tail table n bytes).text ≡ replies table carried
+  -- it ends with the table that they lead to
   pub ends : (transcript_at givens tail table n bytes).table ≡ after_lines table carried
   -- and with the device that all their events make
   pub world : (transcript_at givens tail table n bytes).table.world ≡ after_events table.world (events_of carried)
