@@ -1,18 +1,14 @@
 -- A volume that agrees with its device, and what may change of it.
-use Rattle.std.proofs.Common.{◌≡◌, inl, inr, ℕ, zero, suc, ◌+◌, ◌*◌, ◌/◌, ◌<◌, ◌≤◌, Bool, true, false, cond, eqb, List, [], ◌∷◌, ◌++◌, length, map, refl, sym, ap, ◌∙◌, subst, get_or, arith, add-zero}
-use Rattle.std.specs.Prelude.{if◌then◌else◌, not, ◌==◌, ◌≢◌, sum_by, filter, ◌||◌}
+use Rattle.std.proofs.Common.{◌≡◌, inl, inr, ℕ, ◌+◌, ◌*◌, ◌/◌, ◌<◌, ◌≤◌, Bool, true, false, cond, List, [], ◌∷◌, length, refl, sym, ap, ◌∙◌, subst, get_or, arith}
+use Rattle.std.specs.Prelude.{if◌then◌else◌, not, ◌==◌, sum_by, filter, ◌||◌}
 use Rattle.std.specs.List.{All, list_any}
-use Rattle.std.proofs.lemmas.Bool.{cases_eq, cases_lt, false≢true, true≢false}
-use Rattle.std.proofs.lemmas.Bool.Decides.{nat_tests}
+use Rattle.std.proofs.lemmas.Bool.{cases_eq, cases_lt, true≢false}
 use Rattle.std.proofs.lemmas.List.{get_or-set_same, get_or-set_other, set_past}
-use Rattle.std.proofs.lemmas.List.Elements.{All-filter, All-weaker}
 use Rattle.std.proofs.lemmas.List.Sums.{sum_by-cons}
 use Rattle.zn_truth.specs.Truth.{Geometry}
-use Rattle.zn_model.specs.declared.files.FileZones.{FileZones}
 use Rattle.zn_model.specs.declared.files.Shown.{Shown}
 use Rattle.zn_model.specs.ShownStates.{showing}
-use Rattle.zn_model.specs.ZoneFiles.{capacity_of}
-use Rattle.zn_model.specs.Volume.{Inodes, Request, Queue, Volume, file_at, capacity_at, shown_at, with_shown, is_queued, queued_bytes, failed}
+use Rattle.zn_model.specs.Volume.{Inodes, Request, file_at, capacity_at, shown_at, with_shown}
 use Rattle.zn_remains.proofs.Areas.{IsFileIn}
 
 -- the bytes that wait for a file

@@ -1,14 +1,13 @@
 -- The orders of reads and writes fit the device.
-use Rattle.std.proofs.Common.{◌≡◌, ℕ, zero, suc, ◌+◌, ◌-◌, ◌*◌, ◌/◌, ◌<◌, ◌≤◌, min, max, Bool, true, false, List, length, map, take, drop, refl, sym, ap, ◌∙◌, subst, get_or, arith, length-take, length-drop}
-use Rattle.std.specs.Prelude.{slice_index_or, IfSome, IsTrue, nat_le, nat_lt, ◌&&◌}
+use Rattle.std.proofs.Common.{◌≡◌, ℕ, zero, suc, ◌+◌, ◌-◌, ◌*◌, ◌/◌, ◌<◌, ◌≤◌, true, List, length, drop, refl, sym, ap, ◌∙◌, subst, arith, length-take, length-drop}
+use Rattle.std.specs.Prelude.{nat_le, nat_lt, ◌&&◌}
 use Rattle.std.specs.List.{All, range_with_len}
 use Rattle.std.proofs.Math.Nat.{lt-div-mul-add, div-mul-le_self}
 use Rattle.std.proofs.lemmas.Bool.Decides.{nat_tests}
 use Rattle.std.proofs.lemmas.List.Elements.{All-map}
 use Rattle.std.proofs.lemmas.List.FromFn.{length-range_with_len, get_or-range_with_len}
-use Rattle.std.proofs.lemmas.Nat.{div_below, mul-le, le-div}
+use Rattle.std.proofs.lemmas.Nat.{div_below, mul-le}
 use Rattle.zn_truth.specs.declared.Kind.{Kind}
-use Rattle.zn_truth.specs.declared.Kind.TheVariants.{Sequential}
 use Rattle.zn_truth.specs.declared.Shape.{Shape}
 use Rattle.zn_truth.specs.Truth.{Geometry, room, kind_at}
 use Rattle.zn_truth.specs.Orders.{Order, ReadAt, WriteAt}
@@ -16,7 +15,7 @@ use Rattle.zn_truth.specs.Obeying.{IsWhole, Fits, IsOrderFor}
 use Rattle.zn_truth.specs.OrderLists.{each_zone}
 use Rattle.zn_model.specs.declared.files.Area.{Area}
 use Rattle.zn_model.specs.declared.files.FileZones.{FileZones}
-use Rattle.zn_model.specs.ZoneFiles.{kind_of, zone_room_of, room_of, capacity_of, has_zone}
+use Rattle.zn_model.specs.ZoneFiles.{kind_of, zone_room_of, capacity_of, has_zone}
 use Rattle.zn_model.specs.Pieces.{piece, zone_from, zone_to, blocks_of, write_in, read_in, writes, reads}
 use Rattle.zn_model.specs.Reading.{read_area}
 use Rattle.zn_model.specs.Writing.{area_of}

@@ -1,5 +1,5 @@
 -- The block of a super block that a format writes has the size of a block.
-use Rattle.std.proofs.Common.{◌≡◌, ℕ, zero, suc, ◌+◌, ◌-◌, ◌*◌, ◌<◌, ◌≤◌, Bool, true, false, List, [], ◌∷◌, ◌++◌, length, Option, Some, None, Result, Ok, Err, refl, sym, ap, ◌∙◌, arith, length-append}
+use Rattle.std.proofs.Common.{◌≡◌, ℕ, zero, suc, ◌≤◌, Bool, true, false, List, [], ◌∷◌, ◌++◌, length, Option, Some, None, refl, ◌∙◌, arith, length-append}
 use Rattle.std.specs.Prelude.{if◌then◌else◌, ◌==◌, ◌&&◌, nat_le, IfSome, slice_index, take, drop}
 use Rattle.std.specs.Int.{w32, w64, to_le_bytes}
 use Rattle.std.proofs.lemmas.Bool.{and_parts, leb-true}
@@ -8,7 +8,7 @@ use Rattle.std.specs.List.{list_all}
 use Rattle.uuid.specs.declared.Variant.TheVariants.{RFC4122}
 use Rattle.uuid.specs.Text.{by_index, is_hex_digit, byte_of_digits, has_hyphens, digits_of, has_urn_prefix, open_brace, close_brace, parsed_simple, parsed_hyphenated, parsed_braced, parsed_urn, parsed}
 use Rattle.uuid.specs.Parts.{with_variant}
-use Rattle.zn_model.specs.SuperBlock.{SuperBlock, encoded, padded, zeros, magic, version, features, is_label, is_label_byte}
+use Rattle.zn_model.specs.SuperBlock.{SuperBlock, encoded, padded, zeros, features, is_label, is_label_byte}
 use Rattle.zn_model.specs.Formatting.{zero_block}
 use Rattle.zn_model.proofs.SuperBlocksLists.{length-zeros, length-padded}
 use Rattle.zn_lines.specs.Session.{label_in, uuid_in}

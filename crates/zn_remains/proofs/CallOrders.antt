@@ -1,6 +1,6 @@
 -- Calls that reach a device by orders of their own alone.
-use Rattle.std.proofs.Common.{◌≡◌, ℕ, Bool, true, false, List, refl}
-use Rattle.std.specs.Prelude.{IsTrue, IfSome, ◌==◌}
+use Rattle.std.proofs.Common.{ℕ, Bool, List}
+use Rattle.std.specs.Prelude.{IsTrue, ◌==◌}
 use Rattle.std.specs.List.{All, list_any}
 use Rattle.zn_truth.specs.declared.Command.{Command}
 use Rattle.zn_truth.specs.declared.Command.TheVariants.{Report}
@@ -15,7 +15,7 @@ use Rattle.zn_model.specs.Volume.{Mounted}
 use Rattle.zn_remains.specs.Events.{Event, Ordered, FaultAsked, Turned, PowerLost, LossArmed, PowerBack, FitsIn}
 use Rattle.zn_remains.specs.LineEvents.{IsOrderOf}
 use Rattle.zn_remains.proofs.Areas.{IsFileIn}
-use Rattle.zn_remains.proofs.Reached.{Reached, reached_one, reached_all, reached_stands}
+use Rattle.zn_remains.proofs.Reached.{reached_one, reached_all, reached_stands}
 use Rattle.zn_remains.proofs.Recovering.{Went, VolumeAgrees, went_further, failure_went, recovered_went}
 use Rattle.zn_remains.proofs.Standing.{Stands, stands_event}
 

@@ -1,24 +1,21 @@
 -- The calls that read, write, truncate and sync a file.
-use Rattle.std.proofs.Common.{◌≡◌, ℕ, ◌+◌, ◌-◌, ◌*◌, ◌/◌, ◌%◌, ◌<◌, ◌≤◌, min, Bool, true, false, eqb, List, [], ◌∷◌, length, Option, Some, None, Result, Ok, Err, refl, sym, ap, ◌∙◌, subst, arith}
-use Rattle.std.specs.Prelude.{if◌then◌else◌, not, ◌==◌, ◌&&◌, ◌||◌, nat_lt, nat_le}
-use Rattle.std.specs.List.{All, list_any}
-use Rattle.std.proofs.lemmas.Bool.{cases_Bool, true≢false, false≢true, ltb-true, ltb-false, and_parts}
+use Rattle.std.proofs.Common.{◌≡◌, ℕ, ◌+◌, ◌-◌, ◌*◌, ◌/◌, ◌<◌, ◌≤◌, Bool, true, false, List, [], ◌∷◌, length, Option, Some, None, Ok, Err, refl, sym, ap, ◌∙◌, arith}
+use Rattle.std.specs.Prelude.{if◌then◌else◌, not, ◌==◌, ◌&&◌, nat_lt, nat_le}
+use Rattle.std.specs.List.{All}
+use Rattle.std.proofs.lemmas.Bool.{true≢false, ltb-true, and_parts}
 use Rattle.std.proofs.lemmas.Bool.Decides.{nat_tests}
 use Rattle.std.proofs.lemmas.List.Elements.{All-nil, All-cons}
 use Rattle.zn_truth.specs.declared.Command.{Command}
-use Rattle.zn_truth.specs.declared.Command.TheVariants.{Read, Write, Reset, Finish, Flush, Open, Report}
-use Rattle.zn_truth.specs.declared.DevError.{DevError}
+use Rattle.zn_truth.specs.declared.Command.TheVariants.{Read, Write, Flush, Report}
 use Rattle.zn_truth.specs.declared.Kind.TheVariants.{Conventional, Sequential}
 use Rattle.zn_truth.specs.declared.Shape.{Shape}
 use Rattle.zn_truth.specs.declared.ZoneOp.{ZoneOp}
 use Rattle.zn_truth.specs.declared.ZoneOp.TheVariants.{Open as do_open, Reset as do_reset, Finish as do_finish}
 use Rattle.zn_truth.specs.Truth.{Geometry, kind_at}
-use Rattle.zn_truth.specs.Orders.{Order, ReadAt, Manage, FlushAll, Reply}
+use Rattle.zn_truth.specs.Orders.{Manage, FlushAll, Reply}
 use Rattle.zn_truth.specs.OrderLists.{issue_all}
 use Rattle.zn_truth.specs.World.{World, issue, command_of_op}
-use Rattle.zn_model.specs.declared.answers.Refusal.{Refusal}
 use Rattle.zn_model.specs.declared.files.FileZones.{FileZones}
-use Rattle.zn_model.specs.declared.files.Shown.{Shown}
 use Rattle.zn_model.specs.declared.handles.Handle.{Handle}
 use Rattle.zn_model.specs.ZoneFiles.{capacity_of, has_zone}
 use Rattle.zn_model.specs.Volume.{Volume, Request, Mounted, Live, file_at, capacity_at, shown_at, live_at}
@@ -31,7 +28,7 @@ use Rattle.zn_model.specs.CallAnswers.{as_refused}
 use Rattle.zn_model.proofs.KeysKept.{unless_holds, with_power_holds}
 use Rattle.zn_remains.specs.LineEvents.{IsOrderOf, truncates, in_file, in_live}
 use Rattle.zn_remains.proofs.Agreement.{Agrees, IsRequestFor, Fewer, agrees_changed, no_fewer, none_waits, waiting_bytes}
-use Rattle.zn_remains.proofs.Areas.{IsFileIn, LiesIn, reads_fit, writes_fit, read_lies, write_lies}
+use Rattle.zn_remains.proofs.Areas.{IsFileIn, reads_fit, writes_fit, read_lies, write_lies}
 use Rattle.zn_remains.proofs.CallOrders.{OrdersOf, Has, one_went, all_went, failed_went}
 use Rattle.zn_remains.proofs.Checks.{IsWriteFor, IsTruncateFor, unless_if, write_passed, truncate_passed}
 use Rattle.zn_remains.proofs.Reached.{reached_none}

@@ -1,10 +1,9 @@
 -- The calls that open and close a file.
-use Rattle.std.proofs.Common.{◌≡◌, ℕ, ◌+◌, ◌<◌, ◌≤◌, Bool, true, false, List, [], ◌∷◌, Option, Some, None, Result, Ok, Err, refl, sym, ap, ◌∙◌, arith}
+use Rattle.std.proofs.Common.{◌≡◌, ℕ, Bool, true, false, List, [], ◌∷◌, Option, Some, None, Ok, Err, refl, sym}
 use Rattle.std.specs.Prelude.{if◌then◌else◌, not, ◌==◌, ◌&&◌}
 use Rattle.std.proofs.lemmas.Bool.{and_parts, true≢false}
 use Rattle.zn_truth.specs.declared.Command.{Command}
 use Rattle.zn_truth.specs.declared.Command.TheVariants.{Open, Close, Report}
-use Rattle.zn_truth.specs.declared.DevError.{DevError}
 use Rattle.zn_truth.specs.declared.ZoneOp.TheVariants.{Open as do_open, Close as do_close}
 use Rattle.zn_truth.specs.Truth.{Geometry}
 use Rattle.zn_truth.specs.Orders.{Manage, Reply}

@@ -1,6 +1,6 @@
 -- The calls that submit, complete and reap.
-use Rattle.std.proofs.Common.{◌≡◌, ℕ, ◌+◌, ◌*◌, ◌/◌, ◌<◌, ◌≤◌, Bool, true, false, List, [], ◌∷◌, ◌++◌, length, Option, Some, None, Result, Ok, Err, refl, sym, ap, ◌∙◌, subst, arith, eq-eqb}
-use Rattle.std.specs.Prelude.{if◌then◌else◌, ◌==◌, sum_by}
+use Rattle.std.proofs.Common.{◌≡◌, ℕ, ◌+◌, ◌≤◌, Bool, true, false, List, [], ◌∷◌, ◌++◌, length, Option, Some, None, Ok, Err, refl, sym, ap, ◌∙◌, subst, arith, eq-eqb}
+use Rattle.std.specs.Prelude.{if◌then◌else◌, ◌==◌}
 use Rattle.std.specs.List.{All}
 use Rattle.std.proofs.lemmas.Bool.{eqb-true}
 use Rattle.std.proofs.lemmas.List.Elements.{All-head, All-tail, All-push}
@@ -9,19 +9,17 @@ use Rattle.zn_truth.specs.Truth.{Geometry}
 use Rattle.zn_truth.specs.Orders.{Reply}
 use Rattle.zn_truth.specs.OrderLists.{issue_all}
 use Rattle.zn_truth.specs.World.{World}
-use Rattle.zn_model.specs.declared.answers.Outcome.{Outcome}
-use Rattle.zn_model.specs.declared.answers.Outcome.TheVariants.{Ok as was_done}
 use Rattle.zn_model.specs.declared.answers.Refusal.{Refusal}
 use Rattle.zn_model.specs.declared.handles.Done.{Done}
 use Rattle.zn_model.specs.declared.handles.Handle.{Handle}
 use Rattle.zn_model.specs.CallAnswers.{refused, as_refused}
-use Rattle.zn_model.specs.Recovery.{Finding, refusal_of, is_passed_on, finding_of, recovered}
+use Rattle.zn_model.specs.Recovery.{Finding, refusal_of, is_passed_on, finding_of}
 use Rattle.zn_model.specs.Requests.{submitting_refusal, submit_now, submit_by, submit_call, outcome_of, finished, complete_recovered, after_complete, complete_now, complete_by, complete_call, reap_by, reap_call}
 use Rattle.zn_model.specs.Volume.{Live, Volume, Request, Mounted, file_at, capacity_at, shown_at, live_at}
 use Rattle.zn_model.specs.Writing.{write_orders, grown_volume}
 use Rattle.zn_model.proofs.KeysKept.{chosen_holds, with_power_holds}
 use Rattle.zn_remains.specs.LineEvents.{in_file, in_first}
-use Rattle.zn_remains.proofs.Agreement.{Agrees, IsRequestFor, Fewer, waiting_bytes, bytes-cons, no_fewer}
+use Rattle.zn_remains.proofs.Agreement.{Agrees, IsRequestFor, Fewer, waiting_bytes, bytes-cons}
 use Rattle.zn_remains.proofs.CallOrders.{OrdersOf, all_went, ended_went}
 use Rattle.zn_remains.proofs.CallsOnFiles.{write_commands, writes_are, grown_agrees}
 use Rattle.zn_remains.proofs.Checks.{IsSubmitFor, unless_if, submit_passed}

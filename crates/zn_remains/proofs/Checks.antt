@@ -1,12 +1,11 @@
 -- What the checks of a write, a submit and a truncate leave known where none of them refuses.
-use Rattle.std.proofs.Common.{◌≡◌, ℕ, ◌+◌, ◌*◌, ◌/◌, ◌%◌, ◌<◌, ◌≤◌, ◌⊎◌, inl, inr, Bool, true, false, List, length, Option, Some, None, Result, Ok, Err, refl, sym, ap, ◌∙◌, subst, arith}
+use Rattle.std.proofs.Common.{◌≡◌, ℕ, ◌+◌, ◌*◌, ◌/◌, ◌%◌, ◌<◌, ◌≤◌, Bool, true, false, Option, Some, None, Result, Ok, Err, refl, sym, arith}
 use Rattle.std.specs.Prelude.{if◌then◌else◌, not, ◌==◌, ◌&&◌, ◌||◌, nat_lt}
-use Rattle.std.proofs.lemmas.Bool.{cases_Bool, true≢false, ltb-false, eqb-true, eqb-false, not-false, not-true}
+use Rattle.std.proofs.lemmas.Bool.{true≢false, ltb-false, eqb-true, eqb-false, not-false}
 use Rattle.zn_truth.specs.declared.Shape.{Shape}
 use Rattle.zn_model.specs.declared.answers.Refusal.{Refusal}
-use Rattle.zn_model.specs.declared.answers.Refusal.TheVariants.{Unaligned, TooBig, BadOffset, BadMode, NotAllowed, Busy}
+use Rattle.zn_model.specs.declared.answers.Refusal.TheVariants.{Unaligned, TooBig, BadOffset, BadMode, NotAllowed}
 use Rattle.zn_model.specs.declared.files.FileZones.{FileZones}
-use Rattle.zn_model.specs.declared.files.Shown.{Shown}
 use Rattle.zn_model.specs.Access.{writes as may_write_by}
 use Rattle.zn_model.specs.CallAnswers.{Answer, as_refused, or_else, busy_refusal, rights_refusal, unless}
 use Rattle.zn_model.specs.Requests.{queue_refusal, empty_refusal, submitting_refusal}

@@ -1,8 +1,8 @@
 -- What sequential zones keep while fitting events come to a sound device.
-use Rattle.std.proofs.Common.{◌≡◌, ℕ, ◌+◌, ◌<◌, true, false, List, [], ◌∷◌, ◌++◌, length, refl, sym, ap, ◌∙◌, subst, arith, length-append}
+use Rattle.std.proofs.Common.{◌≡◌, ℕ, ◌+◌, true, false, List, [], ◌∷◌, ◌++◌, length, refl, sym, ap, ◌∙◌, subst, arith, length-append}
 use Rattle.std.specs.List.{All}
 use Rattle.std.proofs.lemmas.List.{get_or_append_left, get_or-append-add}
-use Rattle.std.proofs.lemmas.List.Elements.{All-head, All-tail, All-cons}
+use Rattle.std.proofs.lemmas.List.Elements.{All-head, All-tail}
 use Rattle.zn_truth.specs.Truth.{Geometry, Truth, zone_at, IsSound}
 use Rattle.zn_truth.specs.World.{World, geometry_of}
 use Rattle.zn_remains.specs.Events.{Event, PowerBack, after_event, after_events, FitsIn, PowerGoes}

@@ -1,7 +1,6 @@
 -- Each sequential file is one zone, and a mount shows what that holds.
-use Rattle.std.proofs.Common.{◌≡◌, inl, inr, ℕ, ◌+◌, ◌*◌, ◌<◌, ◌≤◌, Bool, true, false, List, [], ◌∷◌, length, map, get_or, Option, Some, None, Result, Ok, Err, refl, sym, ap, ◌∙◌, subst, arith}
+use Rattle.std.proofs.Common.{◌≡◌, inl, inr, ℕ, ◌+◌, ◌*◌, Bool, true, false, List, [], ◌∷◌, length, get_or, Some, Result, Ok, Err, sym, ap, ◌∙◌, subst, arith}
 use Rattle.std.specs.Prelude.{if◌then◌else◌, IfOk}
-use Rattle.std.specs.List.{range_with_len}
 use Rattle.std.proofs.lemmas.Bool.{cases_lt, true≢false}
 use Rattle.std.proofs.lemmas.List.{get_or-map, get_or_past}
 use Rattle.std.proofs.lemmas.List.Sums.{sum_by-cons}
@@ -24,7 +23,7 @@ use Rattle.zn_model.specs.Mounting.{MountAnswer, is_zone0_unfull, super_block_of
 use Rattle.zn_model.specs.ShownStates.{showing, worse, holds, mounted_by, mounted_shown}
 use Rattle.zn_model.specs.SuperBlock.{SuperBlock}
 use Rattle.zn_model.specs.Volume.{Volume, no_file, file_at, shown_at}
-use Rattle.zn_model.specs.ZoneFiles.{Layout, layout_of, files_of}
+use Rattle.zn_model.specs.ZoneFiles.{layout_of, files_of}
 use Rattle.zn_report.proofs.LayoutLaws.{layout_is}
 use Rattle.zn_lines.specs.Table.{Table}
 use Rattle.zn_remains.specs.Files.{IsOneZone, ShowsZone, FilesAreZones}

@@ -1,6 +1,6 @@
 -- A format reaches its device by its orders.
-use Rattle.std.proofs.Common.{◌≡◌, ℕ, ◌+◌, ◌*◌, ◌/◌, ◌<◌, ◌≤◌, Bool, true, false, ltb, List, [], ◌∷◌, ◌++◌, length, Result, Ok, Err, refl, sym, ap, ◌∙◌, subst, All, arith}
-use Rattle.std.specs.Prelude.{if◌then◌else◌, not, ◌==◌, ◌&&◌, ◌||◌, nat_lt, is_ok}
+use Rattle.std.proofs.Common.{◌≡◌, ℕ, ◌/◌, ◌<◌, ◌≤◌, Bool, true, false, List, [], ◌∷◌, ◌++◌, length, Ok, Err, refl, sym, ap, subst, All, arith}
+use Rattle.std.specs.Prelude.{if◌then◌else◌, not, ◌&&◌, nat_lt, is_ok}
 use Rattle.std.proofs.lemmas.Bool.{and_parts}
 use Rattle.std.proofs.lemmas.List.Elements.{All-nil, All-cons, All-append}
 use Rattle.zn_truth.specs.declared.Command.{Command}
@@ -9,18 +9,18 @@ use Rattle.zn_truth.specs.declared.Cond.{Cond}
 use Rattle.zn_truth.specs.declared.Cond.TheVariants.{Good, ReadOnly, Offline}
 use Rattle.zn_truth.specs.declared.ZoneOp.TheVariants.{Reset as do_reset, Finish as do_finish}
 use Rattle.zn_truth.specs.Limits.{IsWithinLimits}
-use Rattle.zn_truth.specs.Truth.{Geometry, Truth, zone_at, is_sequential, is_good}
+use Rattle.zn_truth.specs.Truth.{Geometry, zone_at, is_sequential, is_good}
 use Rattle.zn_truth.specs.Orders.{Order, ReadAt, WriteAt, Manage, FlushAll, Reply}
 use Rattle.zn_truth.specs.OrderLists.{issue_all}
 use Rattle.zn_truth.specs.World.{World, Outcome, issue}
-use Rattle.zn_truth.specs.Obeying.{IsWhole, Fits, IsOrderFor}
+use Rattle.zn_truth.specs.Obeying.{IsWhole, Fits}
 use Rattle.zn_model.specs.declared.answers.FormatError.TheVariants.{AlreadyFormatted}
 use Rattle.zn_model.specs.Formatting.{FormatAnswer, zero_block, empties, resets, copies, format_orders, format_refused, format_ends, format_writes, may_hold_copies, format_read, format_good, format_by, format_reported, format_call}
 use Rattle.zn_model.specs.Given.{copies_in}
 use Rattle.zn_model.specs.Looks.{report_all}
 use Rattle.zn_model.specs.Mounting.{super_block_of}
 use Rattle.zn_model.specs.SuperBlock.{SuperBlock, encoded}
-use Rattle.zn_remains.specs.Events.{Event, Ordered}
+use Rattle.zn_remains.specs.Events.{Ordered}
 use Rattle.zn_remains.specs.LineEvents.{IsOrderOf}
 use Rattle.zn_remains.proofs.Blocks.{HasSizes, length-encoded, length-zero_block}
 use Rattle.zn_remains.proofs.CallOrders.{OrdersOf}

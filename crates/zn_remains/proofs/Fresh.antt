@@ -1,12 +1,11 @@
 -- The session that the command `scratch` begins may begin.
-use Rattle.std.proofs.Common.{◌≡◌, inl, ℕ, zero, suc, ◌+◌, ◌-◌, ◌*◌, ◌<◌, ◌≤◌, Bool, true, false, List, [], ◌∷◌, ◌++◌, length, map, get_or, Option, Some, None, refl, sym, ap, ◌∙◌, subst, arith, length-append}
-use Rattle.std.specs.Prelude.{if◌then◌else◌, ◌&&◌, nat_le, replicate, count_by, codes}
+use Rattle.std.proofs.Common.{◌≡◌, inl, ℕ, ◌-◌, ◌*◌, ◌<◌, ◌≤◌, Bool, true, false, List, [], ◌∷◌, length, map, get_or, Option, Some, None, refl, sym, ap, subst, arith, length-append}
+use Rattle.std.specs.Prelude.{if◌then◌else◌, ◌&&◌, nat_le, replicate, codes}
 use Rattle.std.specs.Str.{bytes_eq}
 use Rattle.std.proofs.lemmas.Bool.{and_parts, leb-true}
 use Rattle.std.proofs.lemmas.Bool.Decides.{nat_tests}
 use Rattle.std.proofs.lemmas.Grind.{common_steps}
 use Rattle.std.proofs.lemmas.List.{get_or-map, length-map, length-replicate}
-use Rattle.std.proofs.lemmas.Nat.{mul-le}
 use Rattle.zn_base.specs.Decimals.{number_in}
 use Rattle.zn_base.proofs.DecimalLaws.{decimal-number_in}
 use Rattle.zn_truth.specs.declared.Kind.{Kind}
@@ -15,7 +14,7 @@ use Rattle.zn_truth.specs.declared.Shape.{Shape}
 use Rattle.zn_truth.specs.declared.limits.TheConstants.{MAX_ZONES, MAX_BLOCKS}
 use Rattle.zn_truth.specs.Fresh.{fresh_zone, fresh_truth}
 use Rattle.zn_truth.specs.Limits.{IsWithinLimits}
-use Rattle.zn_truth.specs.Truth.{Geometry, geometry, Zone, Truth, zone_at, no_zone, is_active, active, explicit, IsSound, IsSoundZone}
+use Rattle.zn_truth.specs.Truth.{Zone, no_zone, is_active, IsSound, IsSoundZone}
 use Rattle.zn_truth.specs.World.{geometry_of}
 use Rattle.zn_truth.proofs.SoundLoss.{count_by-none}
 use Rattle.zn_lines.specs.declared.limits.TheConstants.{SCRATCH_BLOCKS}

@@ -1,14 +1,11 @@
 -- Each line of a script makes its own events, and leaves a volume that agrees with the device.
-use Rattle.std.proofs.Common.{◌≡◌, ℕ, ◌≤◌, Bool, true, false, List, [], ◌∷◌, length, Option, Some, None, Result, Ok, Err, refl, sym, ap, ◌∙◌, subst}
-use Rattle.std.specs.Prelude.{codes, if◌then◌else◌, is_some, IfSome, IfOk}
+use Rattle.std.proofs.Common.{◌≡◌, ℕ, ◌≤◌, Bool, true, false, List, [], ◌∷◌, length, Option, Some, None, Result, Ok, Err, refl}
+use Rattle.std.specs.Prelude.{if◌then◌else◌, IfSome, IfOk}
 use Rattle.std.specs.Result.{result_ok}
-use Rattle.std.specs.List.{All}
-use Rattle.std.proofs.lemmas.List.Elements.{All-nil, All-cons, All-weaker}
 use Rattle.zn_truth.specs.declared.Command.{Command}
 use Rattle.zn_truth.specs.declared.Command.TheVariants.{Report}
 use Rattle.zn_truth.specs.Limits.{IsWithinLimits}
 use Rattle.zn_truth.specs.Truth.{Geometry}
-use Rattle.zn_truth.specs.World.{World, issue}
 use Rattle.zn_model.specs.declared.answers.MountError.{MountError}
 use Rattle.zn_model.specs.declared.answers.OptError.{OptError}
 use Rattle.zn_model.specs.declared.answers.Refusal.{Refusal}
@@ -18,16 +15,15 @@ use Rattle.zn_model.specs.declared.handles.Handle.{Handle}
 use Rattle.zn_model.specs.CallAnswers.{Answer}
 use Rattle.zn_model.specs.Formatting.{super_block_by}
 use Rattle.zn_model.specs.Looks.{report_all}
-use Rattle.zn_model.specs.Mounting.{MountAnswer, unmount_refusal}
 use Rattle.zn_model.specs.Volume.{Volume, Mounted}
-use Rattle.zn_lines.specs.Session.{Stepped, says_error, on_volume, on_handle, handle_then, tells, opens, freed_by, is_busy, unmounts, unless_mounted, label_in, uuid_in, features_in, format_with, mounts, options_in, mount_with, zones_line, injects}
-use Rattle.zn_lines.specs.Table.{Table, handle_of, with_mounted, without_number}
+use Rattle.zn_lines.specs.Session.{Stepped, on_volume, on_handle, handle_then, tells, opens, freed_by, is_busy, unmounts, unless_mounted, label_in, uuid_in, format_with, mount_with, zones_line}
+use Rattle.zn_lines.specs.Table.{Table, handle_of, without_number}
 use Rattle.zn_remains.specs.Events.{Event, Ordered}
 use Rattle.zn_remains.specs.LineEvents.{in_open, in_mounted}
 use Rattle.zn_remains.proofs.Blocks.{uuid_sixteen, label_short}
 use Rattle.zn_remains.proofs.CallOrders.{OrdersOf}
 use Rattle.zn_remains.proofs.Formats.{format_commands, format_went}
-use Rattle.zn_remains.proofs.Mounts.{MountWent, any_zone, mount_commands, mount_went, report_all_is}
+use Rattle.zn_remains.proofs.Mounts.{any_zone, mount_commands, mount_went, report_all_is}
 use Rattle.zn_remains.proofs.Reached.{Reached, reached_none, reached_one}
 use Rattle.zn_remains.proofs.Recovering.{Went, VolumeAgrees}
 use Rattle.zn_remains.proofs.Standing.{Stands}

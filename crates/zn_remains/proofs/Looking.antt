@@ -1,5 +1,5 @@
 -- The calls that look at a volume issue no order.
-use Rattle.std.proofs.Common.{ℕ, Bool, true, false, List, [], Option, Some, None, refl}
+use Rattle.std.proofs.Common.{ℕ, false, List, [], Option, Some, None}
 use Rattle.zn_truth.specs.Truth.{Geometry}
 use Rattle.zn_model.specs.CallAnswers.{answered}
 use Rattle.zn_model.specs.Looks.{stat_by, stat_call, entries_by, entries_call, attributes_of, attr_call}

@@ -1,16 +1,16 @@
 -- What a run leaves of what the device held.
-use Rattle.std.proofs.Common.{◌≡◌, ℕ, ◌+◌, ◌*◌, ◌<◌, ◌≤◌, true, List, [], ◌∷◌, ◌++◌, length, take, refl, sym, ap, ◌∙◌, subst, append_assoc, arith}
-use Rattle.std.specs.List.{All, flat_map}
+use Rattle.std.proofs.Common.{◌≡◌, ℕ, ◌*◌, ◌≤◌, true, List, [], ◌∷◌, ◌++◌, take, refl, sym, ap, ◌∙◌, subst, append_assoc, arith}
+use Rattle.std.specs.List.{All}
 use Rattle.zn_truth.specs.Limits.{IsWithinLimits}
-use Rattle.zn_truth.specs.Truth.{Geometry, Zone, Truth, zone_at, IsSound}
+use Rattle.zn_truth.specs.Truth.{Geometry, Zone, zone_at}
 use Rattle.zn_truth.specs.World.{World, geometry_of}
 use Rattle.zn_lines.specs.declared.runs.Tail.{Tail}
-use Rattle.zn_lines.specs.Lines.{Line, SyncFile}
+use Rattle.zn_lines.specs.Lines.{Line}
 use Rattle.zn_lines.specs.ReplyTexts.{ok_text}
 use Rattle.zn_lines.specs.Session.{line_step}
 use Rattle.zn_lines.specs.Table.{Table}
 use Rattle.zn_remains.specs.Events.{Event, after_events, FitsIn}
-use Rattle.zn_remains.specs.Histories.{Carried, after_line, after_lines, events_of, AllMake, History}
+use Rattle.zn_remains.specs.Histories.{Carried, after_line, after_lines, events_of, AllMake}
 use Rattle.zn_remains.specs.Laws.{KeepThrough, HoldsAll, Synced, ScriptKeeps, PowerLossesKeep}
 use Rattle.zn_remains.specs.Remaining.{StaysDurable, IsSequentialZone, IsAllDurable, spares}
 use Rattle.zn_remains.proofs.EventsKept.{All-front, kept_through}

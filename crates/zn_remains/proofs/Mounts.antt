@@ -1,6 +1,6 @@
 -- A mount reaches its device by its orders, and leaves a volume that agrees with it.
-use Rattle.std.proofs.Common.{◌≡◌, inl, inr, ℕ, ◌+◌, ◌*◌, ◌<◌, ◌≤◌, Bool, true, false, ltb, List, [], ◌∷◌, length, map, filter, Option, Some, None, Result, Ok, Err, refl, sym, ap, ◌∙◌, subst, get_or, All, arith}
-use Rattle.std.specs.Prelude.{if◌then◌else◌, not, ◌==◌, ◌&&◌, nat_lt, IfOk}
+use Rattle.std.proofs.Common.{◌≡◌, inl, inr, ℕ, ◌+◌, ◌*◌, ◌<◌, ◌≤◌, Bool, true, false, List, [], ◌∷◌, length, map, filter, Result, Ok, Err, refl, sym, ap, ◌∙◌, subst, get_or, All, arith}
+use Rattle.std.specs.Prelude.{if◌then◌else◌, ◌&&◌, nat_lt, IfOk}
 use Rattle.std.specs.List.{range_with_len}
 use Rattle.std.proofs.lemmas.Bool.{and_parts, cases_lt, true≢false}
 use Rattle.std.proofs.lemmas.List.{get_or-map, get_or_past, length-map}
@@ -16,16 +16,15 @@ use Rattle.zn_truth.specs.declared.Shape.{Shape}
 use Rattle.zn_truth.specs.declared.ZoneOp.{ZoneOp}
 use Rattle.zn_truth.specs.declared.ZoneOp.TheVariants.{Close as do_close}
 use Rattle.zn_truth.specs.Limits.{IsWithinLimits}
-use Rattle.zn_truth.specs.Truth.{Geometry, Truth, geometry, zone_at, room, kind_at, is_sequential, is_good, IsSound}
-use Rattle.zn_truth.specs.Orders.{Order, ReadAt, Manage, ReportFrom, Reply}
+use Rattle.zn_truth.specs.Truth.{Geometry, Truth, zone_at, room, kind_at, is_sequential, is_good}
+use Rattle.zn_truth.specs.Orders.{Order, ReadAt, Manage, Reply}
 use Rattle.zn_truth.specs.OrderLists.{issue_all}
 use Rattle.zn_truth.specs.World.{World, Outcome, issue, geometry_of, command_of_op}
-use Rattle.zn_truth.specs.Obeying.{IsZoneToManage, Fits}
+use Rattle.zn_truth.specs.Obeying.{Fits}
 use Rattle.zn_truth.proofs.Issuing.{kind_is, kinds-length}
 use Rattle.zn_model.specs.declared.answers.MountError.{MountError}
 use Rattle.zn_model.specs.declared.answers.SuperError.{SuperError}
 use Rattle.zn_model.specs.declared.answers.Why.TheVariants.{Zone0NotFull}
-use Rattle.zn_model.specs.declared.files.FileZones.{FileZones}
 use Rattle.zn_model.specs.declared.files.MountOpts.{MountOpts}
 use Rattle.zn_model.specs.declared.files.Shown.{Shown}
 use Rattle.zn_model.specs.Given.{copies_in}
@@ -33,17 +32,17 @@ use Rattle.zn_model.specs.Looks.{report_all}
 use Rattle.zn_model.specs.Mounting.{MountAnswer, is_zone0_unfull, super_block_of, closes, fresh_inodes, fresh_volume, not_formatted, mount_closed, mount_decoded, mount_read, mount_reported, mount_call}
 use Rattle.zn_model.specs.ShownStates.{showing, infos_of, worst, holds, mounted_by, mounted_shown}
 use Rattle.zn_model.specs.SuperBlock.{SuperBlock}
-use Rattle.zn_model.specs.Volume.{Inodes, Volume, no_file, file_at, capacity_at, shown_at}
+use Rattle.zn_model.specs.Volume.{no_file, file_at, capacity_at, shown_at}
 use Rattle.zn_model.specs.ZoneFiles.{Layout, layout_of, files_of, room_of}
 use Rattle.zn_report.proofs.LayoutLaws.{layout_is}
-use Rattle.zn_remains.specs.Events.{Event, Ordered}
+use Rattle.zn_remains.specs.Events.{Ordered}
 use Rattle.zn_remains.specs.LineEvents.{IsOrderOf}
 use Rattle.zn_remains.proofs.Agreement.{Agrees, IsRequestFor}
 use Rattle.zn_remains.proofs.Areas.{IsFileIn}
-use Rattle.zn_remains.proofs.CallOrders.{OrdersOf, Has, orders_fit}
-use Rattle.zn_remains.proofs.Reached.{Reached, reached_none, reached_one, reached_both, reached_all, reached_stands}
+use Rattle.zn_remains.proofs.CallOrders.{OrdersOf, Has}
+use Rattle.zn_remains.proofs.Reached.{Reached, reached_none, reached_one, reached_both, reached_all}
 use Rattle.zn_remains.proofs.Recovering.{VolumeAgrees, shape_is, holds_file}
-use Rattle.zn_remains.proofs.Standing.{Stands, stands_event}
+use Rattle.zn_remains.proofs.Standing.{Stands}
 
 -- every zone
 abbrev pub any_zone : ℕ → Bool

@@ -1,5 +1,5 @@
 -- What an order to a device with power leaves, and that nothing changes without power.
-use Rattle.std.proofs.Common.{◌≡◌, ℕ, ◌<◌, Bool, true, false, List, [], ◌∷◌, ◌++◌, length, map, Option, Some, None, Ok, Err, refl, sym, ap, ◌∙◌, subst, get_or, arith}
+use Rattle.std.proofs.Common.{◌≡◌, ℕ, Bool, true, false, List, [], ◌∷◌, ◌++◌, length, map, Option, Some, None, Ok, Err, refl, sym, ap, ◌∙◌, subst, get_or, arith}
 use Rattle.std.specs.Prelude.{if◌then◌else◌, not, ◌||◌, nat_le}
 use Rattle.std.proofs.lemmas.Bool.{true≢false}
 use Rattle.std.proofs.lemmas.List.{get_or-map, length-map}
@@ -14,9 +14,9 @@ use Rattle.zn_truth.specs.declared.LossSpec.{LossSpec}
 use Rattle.zn_truth.specs.Inject.{Injected, inject, turn, lose_power, power_on, unless_bad, is_bad_fault, is_zone, severity, are_bad_cuts, is_outside}
 use Rattle.zn_truth.specs.Loss.{turned}
 use Rattle.zn_truth.specs.Power.{lost}
-use Rattle.zn_truth.specs.Orders.{Order, FlushAll, Done, Reply, flushed, done}
+use Rattle.zn_truth.specs.Orders.{Order, FlushAll, flushed, done}
 use Rattle.zn_truth.specs.Truth.{Zone, Truth, zone_at, no_zone}
-use Rattle.zn_truth.specs.World.{World, Outcome, command_of, zones_of, meets, met, outcome, struck, unarmed, powered_off, issue_armed, issue, faulted}
+use Rattle.zn_truth.specs.World.{World, Outcome, command_of, zones_of, meets, met, outcome, struck, powered_off, issue_armed, issue, faulted}
 use Rattle.zn_truth.proofs.OrderLists.{no_power as stays_off}
 use Rattle.zn_truth.proofs.SoundInject.{arm_loss_leaves}
 use Rattle.zn_truth.proofs.SoundIssue.{if_keeps}

@@ -2,7 +2,6 @@
 use Rattle.std.proofs.Common.{◌≡◌, List, [], ◌∷◌, ◌++◌, Ok, Err, refl, sym, ap, ◌∙◌, subst}
 use Rattle.std.specs.List.{All}
 use Rattle.std.proofs.lemmas.List.Elements.{All-nil, All-cons, All-head, All-tail, All-append, All-weaker}
-use Rattle.zn_truth.specs.declared.Command.{Command}
 use Rattle.zn_truth.specs.Truth.{Geometry}
 use Rattle.zn_truth.specs.Orders.{Order, Reply}
 use Rattle.zn_truth.specs.OrderLists.{first_failure, issue_all}

@@ -1,7 +1,7 @@
 -- What follows a failed command reaches its device by a report, and leaves a volume that agrees with it.
-use Rattle.std.proofs.Common.{◌≡◌, ℕ, zero, suc, ◌+◌, ◌*◌, ◌<◌, ◌≤◌, Bool, true, false, List, [], ◌∷◌, length, map, Option, Some, None, Result, Ok, Err, refl, sym, ap, ◌∙◌, subst, arith, add-zero}
+use Rattle.std.proofs.Common.{◌≡◌, ℕ, zero, suc, ◌+◌, ◌*◌, ◌<◌, ◌≤◌, Bool, true, false, List, ◌∷◌, length, map, Option, Some, None, Ok, Err, refl, sym, ap, ◌∙◌, subst, arith, add-zero}
 use Rattle.std.specs.Prelude.{if◌then◌else◌, not, ◌==◌, ◌&&◌, ◌||◌, IfSome, IfOk}
-use Rattle.std.specs.List.{All, range_with_len}
+use Rattle.std.specs.List.{range_with_len}
 use Rattle.std.proofs.Math.Nat.{suc-mul}
 use Rattle.std.proofs.lemmas.Bool.{and_parts}
 use Rattle.std.proofs.lemmas.List.Elements.{All-filter}
@@ -12,7 +12,7 @@ use Rattle.zn_truth.specs.declared.DevError.{DevError}
 use Rattle.zn_truth.specs.declared.Kind.{Kind}
 use Rattle.zn_truth.specs.declared.Shape.{Shape}
 use Rattle.zn_truth.specs.declared.ZoneInfo.{ZoneInfo}
-use Rattle.zn_truth.specs.Truth.{Geometry, Truth, geometry, zone_at, info_at, room, kind_at, is_good, IsSound}
+use Rattle.zn_truth.specs.Truth.{Geometry, Truth, zone_at, info_at, room, kind_at, is_good}
 use Rattle.zn_truth.specs.Orders.{Reply}
 use Rattle.zn_truth.specs.World.{World, issue, geometry_of}
 use Rattle.zn_truth.proofs.Issuing.{kind_is, kinds-length}
@@ -22,12 +22,12 @@ use Rattle.zn_model.specs.declared.files.Found.{Found}
 use Rattle.zn_model.specs.declared.files.Policy.{Policy}
 use Rattle.zn_model.specs.declared.files.Policy.TheVariants.{RemountRo, ZoneRo, ZoneOffline, Repair}
 use Rattle.zn_model.specs.declared.files.Shown.{Shown}
-use Rattle.zn_model.specs.Recovery.{report_of, Finding, found_by, finding, is_passed_on, refusal_of, recovered_shown, recovered_inodes, agrees as shows_found, applied, volume_after, finding_of, recovered, failed_by, after_failure}
-use Rattle.zn_model.specs.ShownStates.{infos_of, worst, holds, policy_row, makes_read_only}
-use Rattle.zn_model.specs.Volume.{Inodes, Request, Queue, Volume, Mounted, file_at, capacity_at, shown_at, failed}
-use Rattle.zn_model.specs.ZoneFiles.{room_of, zone_room_of, capacity_of}
-use Rattle.zn_remains.specs.Events.{Event, Ordered, FitsIn}
-use Rattle.zn_remains.proofs.Agreement.{Agrees, IsRequestFor, agrees_changed, others, others_fewer, others_none, waiting_bytes}
+use Rattle.zn_model.specs.Recovery.{report_of, Finding, found_by, is_passed_on, refusal_of, recovered_shown, recovered_inodes, agrees as shows_found, applied, volume_after, finding_of, recovered, failed_by, after_failure}
+use Rattle.zn_model.specs.ShownStates.{infos_of, holds, policy_row, makes_read_only}
+use Rattle.zn_model.specs.Volume.{Request, Volume, Mounted, file_at, capacity_at, shown_at}
+use Rattle.zn_model.specs.ZoneFiles.{room_of, zone_room_of}
+use Rattle.zn_remains.specs.Events.{Event, Ordered}
+use Rattle.zn_remains.proofs.Agreement.{Agrees, IsRequestFor, agrees_changed, others, others_fewer, others_none}
 use Rattle.zn_remains.proofs.Areas.{IsFileIn}
 use Rattle.zn_remains.proofs.Reached.{Reached, reached_none, reached_one, reached_both}
 use Rattle.zn_remains.proofs.Standing.{Stands}

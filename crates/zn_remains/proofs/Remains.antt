@@ -1,19 +1,17 @@
 -- What a sequential zone holds after the power went inside an order, or at rest.
-use Rattle.std.proofs.Common.{◌≡◌, inl, inr, ℕ, ◌+◌, ◌*◌, ◌/◌, ◌<◌, ◌≤◌, ◌⊎◌, Bool, true, false, eqb, List, [], length, take, Option, Some, None, Result, Ok, Err, refl, sym, ap, ◌∙◌, subst, arith, ⊎_elim, eq-eqb}
-use Rattle.std.specs.Prelude.{if◌then◌else◌, ◌==◌, ◌≢◌}
+use Rattle.std.proofs.Common.{◌≡◌, inl, inr, ℕ, ◌+◌, ◌/◌, ◌<◌, ◌≤◌, Bool, true, false, List, length, Option, Some, None, refl, sym, ap, ◌∙◌, subst, arith, eq-eqb}
+use Rattle.std.specs.Prelude.{if◌then◌else◌, ◌==◌}
 use Rattle.std.proofs.lemmas.List.{length-set}
 use Rattle.std.proofs.lemmas.Bool.{cases_eq, true≢false}
 use Rattle.std.proofs.lemmas.Bool.Decides.{nat_tests}
 use Rattle.zn_truth.specs.declared.DevError.{DevError}
-use Rattle.zn_truth.specs.declared.FaultSpec.{FaultSpec}
-use Rattle.zn_truth.specs.declared.Armed.{Armed}
 use Rattle.zn_truth.specs.declared.Kind.{Kind}
 use Rattle.zn_truth.specs.declared.Kind.TheVariants.{Sequential}
 use Rattle.zn_truth.specs.declared.LossSpec.{LossSpec}
 use Rattle.zn_truth.specs.declared.Shape.{Shape}
 use Rattle.zn_truth.specs.declared.ZoneOp.TheVariants.{Open, Close, Reset, Finish}
-use Rattle.zn_truth.specs.Truth.{Zone, Truth, geometry, zone_at, with_zone, seen, room, IsSound, IsSoundZone}
-use Rattle.zn_truth.specs.Orders.{Order, ReadAt, WriteAt, Manage, FlushAll, ReportFrom, placed, managed, effect, refusal}
+use Rattle.zn_truth.specs.Truth.{Zone, Truth, zone_at, with_zone, seen, room, IsSound}
+use Rattle.zn_truth.specs.Orders.{Order, ReadAt, WriteAt, Manage, FlushAll, ReportFrom, placed, managed, refusal}
 use Rattle.zn_truth.specs.Loss.{IsZoneLoss, IsLossOf, stages, stages_unless, IsLossOfOne, IsLossInside}
 use Rattle.zn_truth.specs.World.{World, geometry_of}
 use Rattle.zn_truth.specs.Obeying.{IsOrderFor}
@@ -22,7 +20,7 @@ use Rattle.zn_truth.proofs.Losses.{IsFit, fit_of_sound, lost_is_loss}
 use Rattle.zn_truth.proofs.LossesInside.{zone_at-with, zone_at-other}
 use Rattle.zn_truth.proofs.ArmedLosses.{power_lost_inside}
 use Rattle.zn_truth.proofs.SoundInject.{arm_loss_leaves, turn_keeps, lose_power_keeps}
-use Rattle.zn_remains.specs.Events.{Event, Ordered, FaultAsked, Turned, PowerLost, LossArmed, PowerBack, after_event, FitsIn, PowerGoes}
+use Rattle.zn_remains.specs.Events.{Event, Ordered, FaultAsked, Turned, PowerLost, LossArmed, PowerBack, after_event, PowerGoes}
 use Rattle.zn_remains.specs.Remaining.{IsSequentialZone, StaysDurable, Remains, AllRemain, LossKeeps, empties, issued_end}
 use Rattle.zn_remains.proofs.Powers.{goes_told, asked_leaves, back_on}
 use Rattle.zn_remains.proofs.Zones.{stays, stays_both, placed_stays, finished_stays, keeps_of, lost_stays}

@@ -1,12 +1,11 @@
 -- A whole run is a list of lines, each with its own events.
-use Rattle.std.proofs.Common.{◌≡◌, ℕ, ◌+◌, Bool, true, false, List, [], ◌∷◌, ◌++◌, length, map, Option, Some, None, Result, Ok, Err, refl, sym, ap, ◌∙◌, subst, nat_lt, append_assoc}
-use Rattle.std.specs.Prelude.{if◌then◌else◌, IfSome}
-use Rattle.std.specs.List.{All, flat_map}
+use Rattle.std.proofs.Common.{◌≡◌, ℕ, ◌+◌, Bool, true, false, List, [], ◌∷◌, ◌++◌, length, map, Option, Some, None, Result, Ok, Err, refl, sym, ap, ◌∙◌, subst, nat_lt}
+use Rattle.std.specs.Prelude.{if◌then◌else◌}
+use Rattle.std.specs.List.{All}
 use Rattle.std.proofs.lemmas.List.Elements.{All-nil, All-append, All-weaker}
 use Rattle.zn_truth.specs.Limits.{IsWithinLimits}
-use Rattle.zn_truth.specs.Truth.{Geometry, IsSound}
+use Rattle.zn_truth.specs.Truth.{Geometry}
 use Rattle.zn_truth.specs.World.{World, geometry_of}
-use Rattle.zn_model.specs.Volume.{Volume}
 use Rattle.zn_lines.specs.declared.limits.TheConstants.{LINE_LIMIT}
 use Rattle.zn_lines.specs.declared.runs.Ending.{Ending}
 use Rattle.zn_lines.specs.declared.runs.Ending.TheVariants.{Finished, BadLine, LineTooLong, ScriptTooLong, ReadFailed, Unread}
@@ -16,9 +15,9 @@ use Rattle.zn_lines.specs.Grammar.{reading_of}
 use Rattle.zn_lines.specs.Lines.{Line}
 use Rattle.zn_lines.specs.Session.{line_step}
 use Rattle.zn_lines.specs.Table.{Table}
-use Rattle.zn_lines.specs.Transcript.{Transcript, stop, with_text, first_given, more_given, line_then, last_piece, transcript_from, pieces, transcript_at}
-use Rattle.zn_remains.specs.Events.{Event, after_events, FitsIn}
-use Rattle.zn_remains.specs.Histories.{with_read, last_line, lines_in, Carried, after_line, after_lines, replies, events_of, AreEventsOf, AllMake, History}
+use Rattle.zn_lines.specs.Transcript.{Transcript, stop, with_text, first_given, more_given, line_then, last_piece, transcript_from, pieces}
+use Rattle.zn_remains.specs.Events.{after_events, FitsIn}
+use Rattle.zn_remains.specs.Histories.{with_read, last_line, lines_in, Carried, after_line, after_lines, replies, events_of, AllMake, History}
 use Rattle.zn_remains.specs.Laws.{MayBegin, led_by, IsSession, ScriptsAreEvents}
 use Rattle.zn_remains.specs.LineEvents.{Makes}
 use Rattle.zn_remains.proofs.Lines.{Sits, AgreesIf}

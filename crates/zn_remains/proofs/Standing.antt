@@ -1,9 +1,9 @@
 -- Events that fit a device leave it sound, and of its geometry.
-use Rattle.std.proofs.Common.{◌≡◌, ℕ, ◌<◌, List, [], ◌∷◌, ◌++◌, length, refl, sym, ap, ◌∙◌, subst, arith}
+use Rattle.std.proofs.Common.{◌≡◌, ℕ, List, [], ◌∷◌, ◌++◌, refl, sym, ap, ◌∙◌, subst, arith}
 use Rattle.std.specs.List.{All}
 use Rattle.std.proofs.lemmas.List.Elements.{All-head, All-tail}
 use Rattle.zn_truth.specs.declared.FaultSpec.{FaultSpec}
-use Rattle.zn_truth.specs.Truth.{Geometry, geometry, Truth, zone_at, IsSound}
+use Rattle.zn_truth.specs.Truth.{Geometry, geometry, IsSound}
 use Rattle.zn_truth.specs.World.{World, geometry_of}
 use Rattle.zn_truth.specs.Inject.{inject}
 use Rattle.zn_truth.proofs.Issuing.{same_kind, same_count}

@@ -1,6 +1,6 @@
 -- What is durable in a sequential zone stays so at every event that neither empties it nor turns it offline.
-use Rattle.std.proofs.Common.{◌≡◌, inl, inr, ℕ, ◌+◌, ◌*◌, ◌/◌, ◌<◌, ◌≤◌, min, Bool, true, false, eqb, List, length, map, take, Option, Some, None, Result, Ok, Err, refl, sym, ap, ◌∙◌, subst, get_or, arith, eq-eqb}
-use Rattle.std.specs.Prelude.{if◌then◌else◌, not, ◌==◌, ◌&&◌, unwrap_or}
+use Rattle.std.proofs.Common.{◌≡◌, inl, inr, ℕ, ◌*◌, ◌/◌, min, Bool, true, List, length, take, Option, Some, None, Err, refl, sym, ap, ◌∙◌, subst, eq-eqb}
+use Rattle.std.specs.Prelude.{not, ◌==◌, ◌&&◌, unwrap_or}
 use Rattle.std.proofs.lemmas.Bool.{cases_eq, cases_Bool, true≢false}
 use Rattle.std.proofs.lemmas.List.{get_or-map}
 use Rattle.zn_truth.specs.declared.Cond.{Cond}
@@ -13,20 +13,19 @@ use Rattle.zn_truth.specs.declared.Kind.TheVariants.{Sequential}
 use Rattle.zn_truth.specs.declared.LossSpec.{LossSpec}
 use Rattle.zn_truth.specs.declared.ZoneOp.{ZoneOp}
 use Rattle.zn_truth.specs.declared.ZoneOp.TheVariants.{Open, Close, Reset, Finish}
-use Rattle.zn_truth.specs.Truth.{Zone, Truth, geometry, zone_at, no_zone, with_zone, seen, is_sequential, is_good, IsSound}
+use Rattle.zn_truth.specs.Truth.{Zone, Truth, zone_at, no_zone, with_zone, seen, is_sequential, is_good, IsSound}
 use Rattle.zn_truth.specs.Orders.{Order, ReadAt, WriteAt, Manage, FlushAll, ReportFrom, Done, written, managed, flushed, effect, refusal, done, done_unless}
 use Rattle.zn_truth.specs.Loss.{turned_by, turned}
 use Rattle.zn_truth.specs.Power.{settled, clamped, lost, during}
 use Rattle.zn_truth.specs.World.{World, issue, geometry_of, faulted, settled_by_flush}
-use Rattle.zn_truth.specs.Inject.{turn, lose_power}
 use Rattle.zn_truth.specs.Obeying.{IsOrderFor}
 use Rattle.zn_truth.proofs.ArmedLosses.{loss_inside}
 use Rattle.zn_truth.proofs.Issuing.{is_settled, not_settled}
-use Rattle.zn_truth.proofs.Losses.{IsFit, lost_is_loss}
+use Rattle.zn_truth.proofs.Losses.{lost_is_loss}
 use Rattle.zn_truth.proofs.LossesInside.{zone_at-with, zone_at-other}
 use Rattle.zn_truth.proofs.SoundInject.{arm_loss_leaves, turn_keeps, lose_power_keeps}
 use Rattle.zn_truth.proofs.SoundIssue.{if_keeps, issue_keeps}
-use Rattle.zn_remains.specs.Events.{Event, Ordered, FaultAsked, Turned, PowerLost, LossArmed, PowerBack, after_event, FitsIn}
+use Rattle.zn_remains.specs.Events.{Ordered, FaultAsked, Turned, PowerLost, LossArmed, PowerBack, after_event}
 use Rattle.zn_remains.specs.Remaining.{IsSequentialZone, StaysDurable, Remains, DurableStays, spares, empties}
 use Rattle.zn_remains.proofs.Powers.{asked_leaves, back_truth}
 use Rattle.zn_remains.proofs.Remains.{fit_at, room_at, inside_remains}

@@ -1,12 +1,10 @@
 -- Each line makes events of its own that lead to what it leaves.
-use Rattle.std.proofs.Common.{◌≡◌, ℕ, Bool, true, false, List, [], ◌∷◌, length, Option, Some, None, Result, Ok, Err, refl, sym, ap, ◌∙◌, subst}
-use Rattle.std.specs.Prelude.{codes, if◌then◌else◌, is_some, IfSome, ◌==◌}
+use Rattle.std.proofs.Common.{◌≡◌, ℕ, Bool, true, false, List, [], ◌∷◌, length, Option, Some, None, refl, sym, ap, ◌∙◌, subst}
+use Rattle.std.specs.Prelude.{codes, is_some, IfSome, ◌==◌}
 use Rattle.std.specs.List.{All}
 use Rattle.std.proofs.lemmas.List.Elements.{All-nil, All-cons, All-weaker}
-use Rattle.zn_truth.specs.Inject.{Injected, inject, turn, lose_power, arm_loss, power_on}
 use Rattle.zn_truth.specs.Limits.{IsWithinLimits}
 use Rattle.zn_truth.specs.Truth.{Geometry}
-use Rattle.zn_truth.specs.World.{World}
 use Rattle.zn_model.specs.Looks.{stat_call, entries_call, attr_call}
 use Rattle.zn_model.specs.Mounting.{unmount_refusal}
 use Rattle.zn_model.specs.OpenClose.{open_call, close_call}
@@ -22,7 +20,7 @@ use Rattle.zn_lines.specs.Session.{Stepped, says_error, opens, open_line, close_
 use Rattle.zn_lines.specs.Table.{Table, handle_of, with_mounted}
 use Rattle.zn_remains.specs.Events.{Event, Ordered, FaultAsked, Turned, PowerLost, LossArmed, PowerBack, after_event, after_events, FitsIn}
 use Rattle.zn_remains.specs.LineEvents.{Makes, truncates, asked_by, commands_of, may_name, in_found, in_first}
-use Rattle.zn_remains.proofs.CallOrders.{OrdersOf, orders_fit}
+use Rattle.zn_remains.proofs.CallOrders.{OrdersOf}
 use Rattle.zn_remains.proofs.CallsOnFiles.{read_commands, write_commands, sync_commands, read_went, write_went, truncate_went, sync_went}
 use Rattle.zn_remains.proofs.CallsOnHandles.{open_commands, close_commands, open_went, close_went}
 use Rattle.zn_remains.proofs.CallsOnRequests.{submit_went, complete_went, reap_went}

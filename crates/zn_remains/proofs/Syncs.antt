@@ -1,19 +1,17 @@
 -- A line that syncs and says `ok` leaves every zone durable as a whole.
-use Rattle.std.proofs.Common.{◌≡◌, ℕ, Bool, true, false, List, Option, Some, None, Result, Ok, Err, refl, sym, ap, ◌∙◌, subst, get_or, arith}
+use Rattle.std.proofs.Common.{◌≡◌, ℕ, Bool, true, false, List, Option, Some, None, Result, Ok, Err, refl, sym, ap, subst, get_or, arith}
 use Rattle.std.specs.Prelude.{codes, if◌then◌else◌}
-use Rattle.zn_truth.specs.declared.DevError.{DevError}
 use Rattle.zn_truth.specs.Orders.{FlushAll, Reply}
-use Rattle.zn_truth.specs.Truth.{Truth}
 use Rattle.zn_truth.specs.World.{World, issue}
 use Rattle.zn_model.specs.declared.answers.Refusal.{Refusal}
 use Rattle.zn_model.specs.declared.answers.Refusal.TheVariants.{PowerLost}
 use Rattle.zn_model.specs.declared.handles.Handle.{Handle}
-use Rattle.zn_model.specs.CallAnswers.{Answer, unless, with_power, refused, as_refused}
+use Rattle.zn_model.specs.CallAnswers.{Answer, unless, refused, as_refused}
 use Rattle.zn_model.specs.Truncating.{syncing_refusal, after_sync, sync_now, sync_by, sync_call}
 use Rattle.zn_model.specs.Volume.{Live, Volume, Mounted, live_at}
 use Rattle.zn_lines.specs.Lines.{SyncFile}
 use Rattle.zn_lines.specs.ReplyTexts.{refusal_name, error_text, ok_text, reply_text, plain}
-use Rattle.zn_lines.specs.Session.{Stepped, says_error, on_volume, on_handle, handle_then, tells, dropped_unless, line_now, line_step}
+use Rattle.zn_lines.specs.Session.{Stepped, on_volume, on_handle, tells, dropped_unless, line_now, line_step}
 use Rattle.zn_lines.specs.Table.{Table, handle_of}
 use Rattle.zn_remains.specs.Laws.{SyncMakesDurable}
 use Rattle.zn_remains.specs.Remaining.{IsAllDurable}

@@ -1,5 +1,5 @@
 -- The small device, worked through.
-use Rattle.std.proofs.Common.{◌≡◌, inl, ℕ, zero, suc, ◌<◌, List, [], ◌∷◌, ◌++◌, refl, ap, ◌∙◌, arith}
+use Rattle.std.proofs.Common.{◌≡◌, inl, ℕ, zero, suc, ◌<◌, [], ◌∷◌, ◌++◌, refl, ap, ◌∙◌, arith}
 use Rattle.std.specs.Prelude.{replicate, set, Some, None, true, false}
 use Rattle.std.specs.Fmt.{digits}
 use Rattle.zn_truth.specs.declared.Command.TheVariants.{Write}

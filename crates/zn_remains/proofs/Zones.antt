@@ -1,15 +1,13 @@
 -- What is durable in a sequential zone stays so, step by step.
-use Rattle.std.proofs.Common.{◌≡◌, ℕ, ◌+◌, ◌-◌, ◌*◌, ◌/◌, ◌<◌, ◌≤◌, min, Bool, true, false, List, [], ◌++◌, length, take, replicate, Option, None, refl, sym, ap, ◌∙◌, subst, arith}
-use Rattle.std.specs.Prelude.{if◌then◌else◌, not, ◌==◌, ◌&&◌}
+use Rattle.std.proofs.Common.{◌≡◌, ℕ, ◌*◌, ◌≤◌, Bool, true, false, List, [], ◌++◌, take, None, refl, sym, ap, ◌∙◌, subst, arith}
+use Rattle.std.specs.Prelude.{if◌then◌else◌}
 use Rattle.std.proofs.lemmas.Bool.Decides.{nat_tests}
 use Rattle.std.proofs.lemmas.List.{take-append-le, take-take}
-use Rattle.zn_truth.specs.declared.Cond.{Cond}
 use Rattle.zn_truth.specs.declared.Cond.TheVariants.{Good, ReadOnly}
 use Rattle.zn_truth.specs.declared.Kind.{Kind}
 use Rattle.zn_truth.specs.declared.Kind.TheVariants.{Sequential}
 use Rattle.zn_truth.specs.declared.Shape.{Shape}
-use Rattle.zn_truth.specs.declared.ZoneOp.{ZoneOp}
-use Rattle.zn_truth.specs.declared.ZoneOp.TheVariants.{Open, Close, Reset, Finish}
+use Rattle.zn_truth.specs.declared.ZoneOp.TheVariants.{Open, Close, Finish}
 use Rattle.zn_truth.specs.Truth.{Zone, seen}
 use Rattle.zn_truth.specs.Orders.{placed, written, managed, flushed}
 use Rattle.zn_truth.specs.Power.{settled, clamped}

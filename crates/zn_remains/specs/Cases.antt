@@ -1,14 +1,13 @@
 -- A small device, worked through: losses of power in single events, and in the lines of a script.
-use Rattle.std.specs.Prelude.{◌≡◌, ℕ, ◌*◌, Bool, true, false, List, [], ◌∷◌, ◌++◌, replicate, Option, Some, None, codes}
+use Rattle.std.specs.Prelude.{◌≡◌, ℕ, ◌*◌, Bool, true, false, List, [], ◌∷◌, ◌++◌, replicate, Some, None, codes}
 use Rattle.zn_base.specs.Runs.{Run}
 use Rattle.zn_truth.specs.declared.Armed.{Armed}
 use Rattle.zn_truth.specs.declared.Command.{Command}
 use Rattle.zn_truth.specs.declared.Command.TheVariants.{Write, Reset}
 use Rattle.zn_truth.specs.declared.Cond.TheVariants.{Good}
 use Rattle.zn_truth.specs.declared.Kind.TheVariants.{Conventional, Sequential}
-use Rattle.zn_truth.specs.declared.LossSpec.{LossSpec}
 use Rattle.zn_truth.specs.declared.ZoneOp.TheVariants.{Reset as do_reset}
-use Rattle.zn_truth.specs.Truth.{Zone, Truth, zone_at}
+use Rattle.zn_truth.specs.Truth.{Zone, Truth}
 use Rattle.zn_truth.specs.Orders.{ReadAt, WriteAt, Manage, FlushAll, ReportFrom}
 use Rattle.zn_truth.specs.World.{World, calm}
 use Rattle.zn_model.specs.SuperBlock.{encoded}
@@ -16,7 +15,7 @@ use Rattle.zn_model.specs.SuperLaws.{example}
 use Rattle.zn_lines.specs.Grammar.{root}
 use Rattle.zn_lines.specs.Lines.{Mount, OpenFile, WriteTo, SyncFile, PowerLossIn, PowerOn}
 use Rattle.zn_lines.specs.Table.{Table, fresh_table}
-use Rattle.zn_remains.specs.Events.{Event, Ordered, LossArmed, PowerBack, after_event, after_events, PowerGoes}
+use Rattle.zn_remains.specs.Events.{Ordered, LossArmed, PowerBack, after_event, after_events, PowerGoes}
 use Rattle.zn_remains.specs.Histories.{Carried, after_lines, events_of}
 use Rattle.zn_remains.specs.Laws.{MayBegin}
 

@@ -1,6 +1,6 @@
 -- Which events a line of a script makes on the device. (own)
-use Rattle.std.specs.Prelude.{◌≡◌, ℕ, Bool, true, false, ◌==◌, List, [], ◌∷◌, Option, Some, None, IfSome, IsTrue, if◌then◌else◌}
-use Rattle.std.specs.List.{All, list_any}
+use Rattle.std.specs.Prelude.{◌≡◌, ℕ, Bool, true, false, ◌==◌, List, [], ◌∷◌, Option, Some, None, IfSome, IsTrue}
+use Rattle.std.specs.List.{list_any}
 use Rattle.zn_truth.specs.declared.Command.{Command}
 use Rattle.zn_truth.specs.declared.Command.TheVariants.{Read, Write, Reset, Finish, Flush, Open, Close, Report}
 use Rattle.zn_truth.specs.Truth.{Geometry}
@@ -10,7 +10,7 @@ use Rattle.zn_truth.specs.Obeying.{IsOrderFor}
 use Rattle.zn_model.specs.declared.handles.Handle.{Handle}
 use Rattle.zn_model.specs.ZoneFiles.{file_named, has_zone}
 use Rattle.zn_model.specs.Volume.{Volume, Live, Request, file_at, live_at}
-use Rattle.zn_lines.specs.Lines.{Line, Mkfs, Mount, Umount, OpenFile, CloseFile, SizeOf, ReadFrom, WriteTo, TruncateTo, SyncFile, SubmitTo, Complete, Reap, StatOf, ListOf, Attributes, Changes, Zones, FaultOn, TurnTo, PowerLoss, PowerLossIn, PowerOn}
+use Rattle.zn_lines.specs.Lines.{Line, Mkfs, Mount, OpenFile, CloseFile, ReadFrom, WriteTo, TruncateTo, SyncFile, Complete, Zones, FaultOn, TurnTo, PowerLoss, PowerLossIn, PowerOn}
 use Rattle.zn_lines.specs.Table.{Table, handle_of}
 use Rattle.zn_remains.specs.Events.{Event, Ordered, FaultAsked, Turned, PowerLost, LossArmed, PowerBack}
 
