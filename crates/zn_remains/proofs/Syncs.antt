@@ -51,7 +51,7 @@ call_durable m h = powered_durable m.world.powered m (sync_by (live_at m.volume.
 
 -- no error is told as `ok`
 not_ok : (name : List ℕ) → error_text name ≡ ok_text → ⊥
-not_ok name same = let first : (let e : ℕ = 101 in e) ≡ 111 = ap (λ (text : List ℕ). get_or text 0 0) same in absurd (omega arith)
+not_ok name same = absurd (omega (arith, ap (λ (text : List ℕ). get_or text 0 0) same))
 
 reply_ok : (reply : Result (Unit {0}) Refusal) → reply_text plain refusal_name reply ≡ ok_text → reply ≡ Ok tt
 reply_ok (Ok unit) same = refl
