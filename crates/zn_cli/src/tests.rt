@@ -158,7 +158,11 @@ fn numbers_within_the_limits_are_taken(rt: HostRuntime) -> Result<(), Fail> {
             format!(in alloc; "{blocks}")?,
         ];
         let list = list_of(alloc, &["scratch", &words[0], &words[1], &words[2]])?;
-        let asked = Scratch { zones, conv, blocks };
+        let asked = Scratch {
+            zones,
+            conv,
+            blocks,
+        };
         assert_eq!(rt; parse(alloc, &list)?, Some(asked));
     }
     Ok(())

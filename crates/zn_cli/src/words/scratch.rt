@@ -80,8 +80,8 @@ fn read<'a>(alloc: Global, words: &'a [String]) -> Result<Places<'a>, AllocError
     })
 }
 
-/// The words where they stand, which is where their places are.
-fn standing(words: &[String]) -> Option<Places<'_>>
+/// The words in the order in which they stand, which is that of their places.
+fn in_order(words: &[String]) -> Option<Places<'_>>
     ensures some { IfSome result (λ places. words_at places ≡ map string_bytes words.now) }
     ensures none { IfNone result (scratch_of (map string_bytes words.now) ≡ None) }
 {
@@ -107,7 +107,7 @@ pub fn parse(alloc: Global, words: &[String]) -> Result<Option<Scratch>, AllocEr
     match read(alloc, words) {
         Ok(places) => Ok(asked(places)),
         // Values that ask for no device are a bad command line, for want of memory too.
-        Err(_) => match standing(words).and_then(asked) {
+        Err(_) => match in_order(words).and_then(asked) {
             Some(_) => Err(AllocError),
             None => Ok(None),
         },
