@@ -1,3 +1,5 @@
 pub mod KindLists
+pub mod Values
+pub mod ScratchWords
 pub mod Calls
 pub mod Beginning

@@ -1,2 +1,3 @@
 pub mod Scratch
+pub mod Words
 pub mod Top

@@ -34,7 +34,7 @@ pub record Scratched (s : Scratch) (entropy : List ℕ) (result : Status) (old n
   pub whole : machine.breaks ≡ 0
   pub headline : Headline result (run_of (scratch_machine s entropy) old.source old.sink) (run_of machine new.source new.sink)
 
--- by what the words ask for: nothing, or the run of a script, unless there is no memory for the device
+-- by what the words ask for: nothing, or the run of a script, unless there is no memory for the words or the device
 abbrev pub CallMeans : Option Scratch → List ℕ → Status → Streams → Streams → Type 0
 CallMeans None entropy result old new = Unread result Usage bad_command_line old new
 CallMeans (Some s) entropy result old new = Scratched s entropy result old new ⊎ Unread result Memory out_of_memory old new

@@ -6,3 +6,6 @@ mod top;
 mod words;
 
 pub use top::zonefs_main;
+
+#[cfg(test)]
+mod tests;

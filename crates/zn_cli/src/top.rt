@@ -93,8 +93,9 @@ fn run_scratch<S: Source, K: Sink>(
 ///
 /// `scratch ZONES CONV BLOCKS` makes a device in memory, formats it with the defaults and mounts it, opens `seq/0` for
 /// reading and writing as number 0 where that is there, and carries out the script that the source gives; the replies
-/// and a last line go to the sink. All other words are a bad command line. Where a format is asked for that names no
-/// identifier, that is made of the sixteen bytes of entropy.
+/// and a last line go to the sink. All other words are a bad command line. Where memory is wanting for the words or for
+/// the device, nothing is read. Where a format is asked for that names no identifier, that is made of the sixteen bytes
+/// of entropy.
 pub fn zonefs_main<S: Source, K: Sink>(
     alloc: Global,
     words: &[String],
@@ -109,8 +110,9 @@ pub fn zonefs_main<S: Source, K: Sink>(
     ensures accepted { AcceptedRuns (command_of (map string_bytes words.now)) entropy result
         (streams_of (S.state source.old) (K.state sink.old)) (streams_of (S.state source.new) (K.state sink.new)) }
 {
-    match parse(words) {
-        Some(scratch) => run_scratch(alloc, scratch, entropy, source, sink),
-        None => end_with(sink, b"zonefs: bad command line\n", Status::Usage),
+    match parse(alloc, words) {
+        Ok(Some(scratch)) => run_scratch(alloc, scratch, entropy, source, sink),
+        Ok(None) => end_with(sink, b"zonefs: bad command line\n", Status::Usage),
+        Err(AllocError) => end_starved(sink),
     }
 }

@@ -1,12 +1,32 @@
 // The words of the command line.
-ghost use Rattle.std.specs.Prelude.{◌≡◌, ◌≤◌, IfSome, map, string_bytes};
+ghost use Rattle.std.specs.Prelude.{◌≡◌, ◌≤◌, IfOk, IfSome, IsSome, OnErr, map, string_bytes};
 ghost use Rattle.zn_base.specs.Decimals.{number_in};
-ghost use Rattle.zn_lines.specs.Scratch.{command_of, is_scratch, scratch_by};
+ghost use Rattle.zn_lines.specs.Scratch.{command_of};
 ghost use Rattle.zn_cli.specs.Scratch.{IsWithin};
+ghost use Rattle.zn_cli.specs.Words.{are_values, is_value};
 
+mod scratch;
+
+use std::alloc::{AllocError, Global};
 use zn_base::parse_number;
-use zn_lines::{SCRATCH_BLOCKS, Scratch};
-use zn_truth::{MAX_BLOCKS, MAX_ZONES};
+use zn_lines::Scratch;
+
+/// Whether a word isn't empty and doesn't begin as an option does.
+fn is_value(word: &str) -> bool
+    ensures { result ≡ is_value word.now }
+{
+    match word.as_bytes() {
+        [] => false,
+        [byte, ..] => *byte != b'-',
+    }
+}
+
+/// Whether words have the form of a command without options: so many words, and all of them values.
+fn are_values(count: usize, words: &[String]) -> bool
+    ensures { result ≡ are_values count (map string_bytes words.now) }
+{
+    words.len() == count && words.iter().all(|word| is_value(word.as_str()))
+}
 
 /// The decimal number that a word is, if it is at most `max`.
 fn number(word: &[u8], max: u32) -> Option<u32>
@@ -19,42 +39,19 @@ fn number(word: &[u8], max: u32) -> Option<u32>
     }
 }
 
-/// Whether it has a zone, at least as many zones as conventional ones, zones of 2 blocks or more, and at most
-/// 65,536 blocks in all.
-fn is_accepted(scratch: Scratch) -> bool
-    ensures { result ≡ is_scratch scratch }
-{
-    1 <= scratch.zones
-        && scratch.conv <= scratch.zones
-        && 2 <= scratch.blocks
-        && scratch.zones as u64 * scratch.blocks as u64 <= SCRATCH_BLOCKS as u64
-}
-
-/// The device that three words ask for.
-fn asked(zones: &[u8], conv: &[u8], blocks: &[u8]) -> Option<Scratch>
-    ensures asked { result ≡
-        scratch_by (number_in MAX_ZONES zones.now) (number_in MAX_ZONES conv.now) (number_in MAX_BLOCKS blocks.now) }
-    ensures within { IfSome result (λ s. IsWithin s) }
-{
-    let scratch = Scratch {
-        zones: number(zones, MAX_ZONES)?,
-        conv: number(conv, MAX_ZONES)?,
-        blocks: number(blocks, MAX_BLOCKS)?,
-    };
-    is_accepted(scratch).then_some(scratch)
-}
-
-/// The device that the words after the program's name ask for: `scratch` and three decimal numbers.
+/// What the words after the program's name ask for, if they are a command line. The first one names the command,
+/// and each command reads the others itself. Want of memory is told only of words that are a command line.
 #[tactic(auto, unfolding(zn_lines::specs::Scratch::command_of))]
-pub fn parse(words: &[String]) -> Option<Scratch>
-    ensures asked { result ≡ command_of (map string_bytes words.now) }
-    ensures within { IfSome result (λ s. IsWithin s) }
+pub fn parse(alloc: Global, words: &[String]) -> Result<Option<Scratch>, AllocError>
+    ensures asked { IfOk result (λ asked. asked ≡ command_of (map string_bytes words.now)) }
+    ensures memory { OnErr result (IsSome (command_of (map string_bytes words.now))) }
+    ensures within { IfOk result (λ asked. IfSome asked (λ s. IsWithin s)) }
 {
-    let [name, zones, conv, blocks] = words else {
-        return None;
+    let [name, words @ ..] = words else {
+        return Ok(None);
     };
-    if name.as_bytes() != b"scratch".as_slice() {
-        return None;
+    match name.as_str() {
+        "scratch" => scratch::parse(alloc, words),
+        _ => Ok(None),
     }
-    asked(zones.as_bytes(), conv.as_bytes(), blocks.as_bytes())
 }
