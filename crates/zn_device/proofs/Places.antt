@@ -136,6 +136,10 @@ flags_found shape Sequential info store sound good is = absurd (cc)
 pub buffer_holds : (shape : Shape) (kind : Kind) (info : ZoneInfo) (store : Store) → Found shape kind info store → 4096 * info.held ≤ length store.buffer.items
 buffer_holds shape kind info store known = omega (arith, known.sound.held, known.buffer)
 
+-- and a conventional zone no more flags than blocks
+pub flags_fit : (shape : Shape) (info : ZoneInfo) (store : Store) → Found shape Conventional info store → 4096 * length store.unflushed.items ≤ length store.buffer.items
+flags_fit shape info store known = omega (arith, known.sound.flags, buffer_holds shape Conventional info store known)
+
 -- what an accepted read found
 reading_none : (cond : Cond) (held end : ℕ) → reading cond (if nat_lt held end then Some BeyondWp else None) ≡ None → end ≤ held
 reading_none Good held end h = grind (arith, nat_tests)

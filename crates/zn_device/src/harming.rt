@@ -1,12 +1,14 @@
 // Harm to zones in memory.
 ghost use Rattle.std.specs.Prelude.{◌≡◌, ◌<◌, ◌≤◌, length};
-ghost use Rattle.zn_truth.specs.Truth.{zone_at, with_zone, geometry};
+ghost use Rattle.zn_truth.specs.declared.Kind.TheVariants.{Conventional};
+ghost use Rattle.zn_truth.specs.Truth.{zone_at, with_zone, kind_at, geometry};
 ghost use Rattle.zn_truth.specs.Loss.{turned};
 ghost use Rattle.zn_truth.specs.Power.{settled};
 ghost use Rattle.zn_truth.specs.Inject.{severity};
 ghost use Rattle.zn_truth.specs.Obeying.{IsZoneToManage};
 ghost use Rattle.zn_zone.specs.Facts.{Facts};
 ghost use Rattle.zn_zone.specs.Machine.{facts};
+ghost use Rattle.zn_device.specs.Harms.{scrubbed};
 ghost use Rattle.zn_device.specs.Stores.{truth_of, HasStores, IsSoundDevice};
 
 use crate::store::Store;
@@ -59,4 +61,16 @@ pub fn settle_stored(
     zones.sound();
     zones.cut(z, len);
     stores[z.0 as usize].settle(from, len, fill);
+}
+
+/// Scrubs a conventional zone.
+pub fn scrub_stored(zones: &Zones, stores: &mut Vec<Store>, z: ZoneNo, fill: Option<u8>)
+    requires device { IsSoundDevice (facts zones.now) stores.old.items }
+    requires zone { z.0 < length (geometry (truth_of (facts zones.now) stores.old.items)).kinds }
+    requires kind { kind_at (geometry (truth_of (facts zones.now) stores.old.items)) z.0 ≡ Conventional }
+    ensures truth { let t = truth_of (facts zones.now) stores.old.items in
+        truth_of (facts zones.now) stores.new.items ≡ with_zone t z.0 (scrubbed (zone_at t z.0) fill) }
+    ensures stored { HasStores (facts zones.now) stores.new.items }
+{
+    stores[z.0 as usize].scrub(fill);
 }

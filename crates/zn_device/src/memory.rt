@@ -8,7 +8,7 @@ ghost use Rattle.zn_device.specs.Stores.{truth_of, IsSoundDevice};
 
 use crate::commands::{flush_all, manage_stored, read_stored, report_from, write_stored};
 use crate::fresh::{fresh_infos, fresh_stores};
-use crate::harming::{durable_stored, settle_stored, turn_stored};
+use crate::harming::{durable_stored, scrub_stored, settle_stored, turn_stored};
 use crate::store::Store;
 use crate::{Harm, Zoned};
 use std::alloc::{AllocError, Global};
@@ -115,6 +115,15 @@ impl Harm for MemDevice {
     fn settle(&mut self, z: ZoneNo, from: u32, len: u32, fill: Option<u8>) -> Result<(), DevError> {
         settle_stored(&mut self.zones, &mut self.stores, z, from, len, fill);
         Ok(())
+    }
+
+    fn scrub(&mut self, z: ZoneNo, fill: Option<u8>) -> Result<(), DevError> {
+        scrub_stored(&self.zones, &mut self.stores, z, fill);
+        Ok(())
+    }
+
+    fn rest(&mut self) {
+        self.zones.rest();
     }
 }
 

@@ -3,7 +3,10 @@ ghost use Rattle.zn_truth.proofs.Hushed.{sound_hushed, within_hushed};
 ghost use Rattle.zn_device.specs.Quiet.{hushed_state};
 
 use crate::{Injects, Zoned};
-use zn_truth::{Cond, DevError, FaultSpec, InjectError, Kind, Shape, ZoneInfo, ZoneNo, ZoneOp};
+use zn_truth::{
+    Command, Cond, DevError, FaultSpec, InjectError, Kind, LossSpec, Shape, ZoneInfo, ZoneNo,
+    ZoneOp,
+};
 
 /// A device that does what the one within does, and doesn't tell its bytes.
 #[derive(Drop)]
@@ -64,13 +67,35 @@ impl<D: Zoned + Drop> Zoned for Quiet<D> {
     }
 }
 
-#[tactic(auto, using(crate::proofs::Quieted::waits_hushed, crate::proofs::Quieted::waiting_hushed, crate::proofs::Quieted::turning_hushed))]
 impl<D: Injects + Drop> Injects for Quiet<D> {
+    #[tactic(auto, using(crate::proofs::Quieted::waits_hushed, crate::proofs::Quieted::waiting_hushed))]
     fn inject(&mut self, fault: FaultSpec) -> Result<(), InjectError> {
         self.dev.inject(fault)
     }
 
+    #[tactic(auto, using(crate::proofs::Quieted::turning_hushed))]
     fn turn(&mut self, z: ZoneNo, to: Cond) -> Result<(), InjectError> {
         self.dev.turn(z, to)
+    }
+
+    #[tactic(auto, using(crate::proofs::Quieted::losing_hushed))]
+    fn lose_power(&mut self, loss: &LossSpec) -> Result<(), InjectError> {
+        self.dev.lose_power(loss)
+    }
+
+    #[tactic(auto, using(crate::proofs::Quieted::armed_hushed, crate::proofs::Quieted::arming_hushed))]
+    fn arm_loss(
+        &mut self,
+        z: ZoneNo,
+        command: Command,
+        done: bool,
+        loss: &LossSpec,
+    ) -> Result<(), InjectError> {
+        self.dev.arm_loss(z, command, done, loss)
+    }
+
+    #[tactic(auto, using(crate::proofs::Quieted::powering_hushed))]
+    fn power_on(&mut self) {
+        self.dev.power_on()
     }
 }

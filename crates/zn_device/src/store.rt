@@ -1,12 +1,13 @@
 // The bytes of a zone in memory.
-ghost use Rattle.std.specs.Prelude.{◌≡◌, ◌+◌, ◌*◌, ◌/◌, ◌≤◌, length, take, drop, IfOk};
+ghost use Rattle.std.specs.Prelude.{◌≡◌, ◌+◌, ◌-◌, ◌*◌, ◌/◌, ◌≤◌, ◌++◌, length, take, drop, replicate, IfOk};
 ghost use Rattle.zn_truth.specs.Truth.{room};
 ghost use Rattle.zn_truth.specs.Orders.{replaced, written, managed, flushed};
 ghost use Rattle.zn_truth.specs.Loss.{turned_by};
-ghost use Rattle.zn_truth.specs.Power.{settled};
+ghost use Rattle.zn_truth.specs.Power.{settled, with_filled_blocks, with_fill_unflushed};
 ghost use Rattle.zn_truth.specs.Obeying.{IsWhole};
 ghost use Rattle.zn_truth.specs.declared.Kind.TheVariants.{Conventional, Sequential};
 ghost use Rattle.zn_truth.specs.Fresh.{fresh_zone};
+ghost use Rattle.zn_device.specs.Harms.{scrubbed};
 ghost use Rattle.zn_device.specs.Stores.{zone_of, Keeps, HasBuffer, held_before};
 
 use std::alloc::{AllocError, Global};
@@ -174,5 +175,50 @@ impl Store {
             self.buffer[BLOCK_SIZE * from as usize..BLOCK_SIZE * len as usize].fill(byte);
         }
         self.durable = len;
+    }
+
+    /// Where a byte is given, it takes the place of each byte of the unflushed blocks.
+    fn fill_unflushed(&mut self, fill: Option<u8>)
+        requires { BLOCK_SIZE * length self.old.unflushed.items ≤ length self.old.buffer.items }
+        ensures buffer { self.new.buffer.items
+            ≡ with_fill_unflushed fill self.old.unflushed.items self.old.buffer.items }
+        ensures same { self.new ≡ record self.old { buffer = self.new.buffer } }
+    {
+        if let Some(byte) = fill {
+            fill_blocks(&mut self.buffer, &self.unflushed, byte);
+        }
+    }
+
+    /// Where a byte is given, it takes the place of each byte of the unflushed blocks. None is unflushed any more.
+    #[tactic(auto, using(crate::proofs::Bytes::take_scrubbed))]
+    pub fn scrub(&mut self, fill: Option<u8>)
+        requires { BLOCK_SIZE * length self.old.unflushed.items ≤ length self.old.buffer.items }
+        ensures zone { (info : ZoneInfo) → Keeps self.new (scrubbed (zone_of Conventional info self.old) fill) }
+        ensures buffer { length self.new.buffer.items ≡ length self.old.buffer.items }
+    {
+        self.fill_unflushed(fill);
+        self.unflushed.fill(false);
+    }
+}
+
+/// Puts the byte in the place of each byte from one place on, up to another.
+fn fill_part(buffer: &mut Vec<u8>, from: usize, to: usize, byte: u8)
+    requires order { from ≤ to }
+    requires within { to ≤ length buffer.old.items }
+    ensures { buffer.new.items ≡ take from buffer.old.items ++ replicate (to - from) byte ++ drop to buffer.old.items }
+{
+    buffer[from..to].fill(byte);
+}
+
+/// Puts the byte in the place of each byte of the blocks that have a flag.
+fn fill_blocks(buffer: &mut Vec<u8>, flags: &[bool], byte: u8)
+    requires { BLOCK_SIZE * length flags.now ≤ length buffer.old.items }
+    ensures { buffer.new.items ≡ with_filled_blocks byte flags.now buffer.old.items }
+{
+    for (i, flag) in flags.iter().enumerate() {
+        if *flag {
+            let from = BLOCK_SIZE * i;
+            fill_part(buffer, from, from + BLOCK_SIZE, byte);
+        }
     }
 }
