@@ -23,5 +23,5 @@ pub mod Untroubled
 pub mod Passing
 pub mod Answering
 pub mod Powering
-pub mod Reporting
+pub mod Reports
 pub mod TellingPower

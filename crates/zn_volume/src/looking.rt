@@ -12,16 +12,16 @@ ghost use Rattle.zn_model.specs.Volume.{file_at, shown_at};
 ghost use Rattle.zn_volume.specs.Refusals.{IsRefusedBy, stat_refusal, entries_refusal, attr_refusal};
 ghost use Rattle.zn_volume.specs.Causes.{CallCause};
 ghost use Rattle.zn_volume.specs.Means.{spoils};
-ghost use Rattle.zn_volume.specs.Reporting.{as_told, as_reported, report_refusal};
+ghost use Rattle.zn_volume.specs.Reports.{as_reported, report_refusal};
 ghost use Rattle.zn_volume.specs.VolumeState.{mounted_in};
 
-use crate::commands::report_zones;
 use crate::paths::entries_of_path;
-use crate::volume::{Volume, refusal};
+use crate::reporting::report;
+use crate::volume::Volume;
 use zn_device::Zoned;
 use zn_inode::room;
 use zn_model::{Attr, Place, Refusal, Shown, Stat};
-use zn_truth::{DevError, ZoneInfo, ZoneNo};
+use zn_truth::{ZoneInfo, ZoneNo};
 
 /// An octal digit without the right to write.
 fn unwritable(digit: u32) -> u32
@@ -42,16 +42,6 @@ fn mode_of(perm: u32, shown: &Shown) -> u32
         perm
     } else {
         unwritable(perm / 64 % 8) * 64 + unwritable(perm / 8 % 8) * 8 + unwritable(perm % 8)
-    }
-}
-
-/// A reply of the device, as it is told where no recovery follows.
-fn told_alone(reply: Result<(), DevError>) -> Result<(), Refusal>
-    ensures { result ≡ as_told reply }
-{
-    match reply {
-        Ok(()) => Ok(()),
-        Err(error) => Err(refusal(error)),
     }
 }
 
@@ -188,7 +178,7 @@ impl<D: Zoned + Drop> Volume<D> {
         if !self.dev.powered() {
             return Err(Refusal::PowerLost);
         }
-        told_alone(report_zones(&mut self.dev, out))
+        report(&mut self.dev, out)
     }
 
     /// Where a zone is shown: zone 0 in the super block's place, each other zone in the file that has it.

@@ -2,7 +2,7 @@ use Rattle.std.proofs.Common.{◌≡◌, false, List, sym, ap, ◌∙◌}
 use Rattle.zn_truth.specs.declared.ZoneInfo.{ZoneInfo}
 use Rattle.zn_model.specs.CallAnswers.{Answer}
 use Rattle.zn_volume.specs.VolumeState.{VolumeState, mounted_in}
-use Rattle.zn_volume.proofs.Reporting.{report_lost, reported_reply, reported_mounted, reported_io, reported_caused}
+use Rattle.zn_volume.proofs.Reports.{report_lost, reported_reply, reported_mounted}
 use Rattle.zn_volume.proofs.volume.Volume.report.Goals as goal
 
 pub returns-then-not-powered-clause-reply : goal.returns-then-not-powered-clause-reply
@@ -16,14 +16,7 @@ returns-then-not-powered-clause-mounted g c = λ unspoilt.
     ap (λ (a : Answer (List ZoneInfo)). a.mounted) (sym (report_lost (mounted_in c.args.self.now) off))
 
 pub returns-clause-reply : goal.returns-clause-reply
-returns-clause-reply g c =
-    rw (← c.self.view_is, c.told_alone.ensures) (reported_reply c.report_zones.result c.report_zones.new.infos _ _ _ c.report_zones.ensures.done c.report_zones.ensures.infos)
+returns-clause-reply g c = rw (← c.self.view_is) (λ unspoilt. reported_reply _ c.report.ensures unspoilt)
 
 pub returns-clause-mounted : goal.returns-clause-mounted
-returns-clause-mounted g c = rw (← c.self.view_is) (reported_mounted c.report_zones.result c.report_zones.new.infos _ _ _ c.report_zones.ensures.done)
-
-pub returns-clause-io_error : goal.returns-clause-io_error
-returns-clause-io_error g c = rw (← c.self.view_is, c.told_alone.ensures) (reported_io c.report_zones.result _ _ c.report_zones.ensures.done)
-
-pub returns-clause-cause : goal.returns-clause-cause
-returns-clause-cause g c = rw (← c.self.view_is, c.told_alone.ensures) (reported_caused c.report_zones.result _ _ c.report_zones.ensures.done)
+returns-clause-mounted g c = rw (← c.self.view_is) (λ unspoilt. reported_mounted _ c.report.ensures unspoilt)
