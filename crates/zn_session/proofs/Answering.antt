@@ -14,7 +14,7 @@ use Rattle.zn_volume.specs.Causes.{CallCause}
 use Rattle.zn_volume.specs.Means.{spoils, without_value, as_read}
 use Rattle.zn_volume.specs.VolumeState.{VolumeState, mounted_in}
 use Rattle.zn_volume.proofs.Causing.{look_cause, same_cause}
-use Rattle.zn_session.specs.Replies.{text_of, IsWritable}
+use Rattle.zn_session.specs.Replies.{Kept, text_of, IsWritable}
 use Rattle.zn_session.specs.SessionState.{table_of, IsNumbered}
 use Rattle.zn_session.specs.Steps.{told_by, ends, Answers, IsReplyTo}
 use Rattle.zn_session.specs.declared.replies.Reply.{Reply}
@@ -22,12 +22,12 @@ use Rattle.zn_session.specs.declared.replies.Reply.TheVariants.{Refused}
 use Rattle.zn_session.proofs.Numbers.{kept_numbered}
 
 -- a call, and the numbers after it
-pub tells_numbers : {X : Type 0} {told : X → List ℕ} {line : Line} {result : Result X Refusal} {reply : Reply} {buffer : List ℕ} {old new : VolumeState} {numbers : List (Option Handle)} (answer : Answer X) (after : List (Option Handle))
-    → (new.device.spoilt ≡ false → line_now buffer (table_of (mounted_in old) numbers) line ≡ says (reply_text told refusal_name answer.reply) (table_of answer.mounted after))
+pub tells_numbers : {X : Type 0} {told : X → List ℕ} {line : Line} {result : Result X Refusal} {reply : Reply} {kept : Kept} {old new : VolumeState} {numbers : List (Option Handle)} (answer : Answer X) (after : List (Option Handle))
+    → (new.device.spoilt ≡ false → line_now kept.bytes (table_of (mounted_in old) numbers) line ≡ says (reply_text told refusal_name answer.reply) (table_of answer.mounted after))
     → (new.device.spoilt ≡ false → result ≡ answer.reply) → (new.device.spoilt ≡ false → mounted_in new ≡ answer.mounted)
     → (new.device.spoilt ≡ false → IsNumbered answer.mounted after) → (new.device.spoilt ≡ false → answer.mounted.volume.handles.opened ≤ old.volume.handles.opened + 1)
-    → CallCause result old.device new.device → IsReplyTo told result reply buffer → Answers line reply buffer old new numbers after
-tells_numbers {told = told} {result = result} {reply = reply} {buffer = buffer} {old = old} {new = new} answer after does replies mounts numbered opened cause tells =
+    → CallCause result old.device new.device → IsReplyTo told result reply kept → Answers line reply kept old new numbers after
+tells_numbers {told = told} {result = result} {reply = reply} {kept = kept} {old = old} {new = new} answer after does replies mounts numbered opened cause tells =
     let caused : CallCause (told_by reply) old.device new.device = same_cause {a = result} {b = told_by reply} tells.same cause in
     let unspoilt : ends reply ≡ false → new.device.spoilt ≡ false = λ goes. caused.spoilt ∙ goes in
     record {
@@ -35,7 +35,7 @@ tells_numbers {told = told} {result = result} {reply = reply} {buffer = buffer} 
       step = λ goes.
           does (unspoilt goes) ∙ ap (λ (r : Result _ Refusal). says (reply_text told refusal_name r) (table_of answer.mounted after)) (sym (replies (unspoilt goes)))
           ∙ ap (λ text. says text (table_of answer.mounted after)) (sym tells.text)
-          ∙ ap (λ (m : Mounted). says (text_of reply buffer) (table_of m after)) (sym (mounts (unspoilt goes)));
+          ∙ ap (λ (m : Mounted). says (text_of reply kept) (table_of m after)) (sym (mounts (unspoilt goes)));
       numbered = λ goes. subst (λ (m : Mounted). IsNumbered m after) (sym (mounts (unspoilt goes))) (numbered (unspoilt goes));
       opened = λ goes. subst (λ (m : Mounted). m.volume.handles.opened ≤ old.volume.handles.opened + 1) (sym (mounts (unspoilt goes))) (opened (unspoilt goes));
       cause = caused;
@@ -46,25 +46,25 @@ pub no_more : {before after : Handles} → after ≡ before → after.opened ≤
 no_more same = omega (arith, ap (λ (handles : Handles). handles.opened) same)
 
 -- a call that keeps the numbers
-pub tells_call : {X : Type 0} {told : X → List ℕ} {line : Line} {result : Result X Refusal} {reply : Reply} {buffer : List ℕ} {old new : VolumeState} {numbers : List (Option Handle)} (answer : Answer X)
-    → line_now buffer (table_of (mounted_in old) numbers) line ≡ says (reply_text told refusal_name answer.reply) (table_of answer.mounted numbers)
+pub tells_call : {X : Type 0} {told : X → List ℕ} {line : Line} {result : Result X Refusal} {reply : Reply} {kept : Kept} {old new : VolumeState} {numbers : List (Option Handle)} (answer : Answer X)
+    → line_now kept.bytes (table_of (mounted_in old) numbers) line ≡ says (reply_text told refusal_name answer.reply) (table_of answer.mounted numbers)
     → (new.device.spoilt ≡ false → result ≡ answer.reply) → (new.device.spoilt ≡ false → mounted_in new ≡ answer.mounted)
-    → Keeps (mounted_in old) answer.mounted → IsNumbered (mounted_in old) numbers → CallCause result old.device new.device → IsReplyTo told result reply buffer → Answers line reply buffer old new numbers numbers
+    → Keeps (mounted_in old) answer.mounted → IsNumbered (mounted_in old) numbers → CallCause result old.device new.device → IsReplyTo told result reply kept → Answers line reply kept old new numbers numbers
 tells_call {old = old} {numbers = numbers} answer does replies mounts keeps numbered cause tells =
     tells_numbers answer numbers (λ _. does) replies mounts (λ _. kept_numbered (mounted_in old) answer.mounted numbers keeps numbered) (λ _. no_more keeps.handles) cause tells
 
 -- a call that only looks
-pub tells_look : {X : Type 0} {told : X → List ℕ} {line : Line} {result : Result X Refusal} {reply : Reply} {buffer : List ℕ} {old : VolumeState} {numbers : List (Option Handle)} (answer : Answer X)
-    → line_now buffer (table_of (mounted_in old) numbers) line ≡ says (reply_text told refusal_name answer.reply) (table_of answer.mounted numbers)
+pub tells_look : {X : Type 0} {told : X → List ℕ} {line : Line} {result : Result X Refusal} {reply : Reply} {kept : Kept} {old : VolumeState} {numbers : List (Option Handle)} (answer : Answer X)
+    → line_now kept.bytes (table_of (mounted_in old) numbers) line ≡ says (reply_text told refusal_name answer.reply) (table_of answer.mounted numbers)
     → result ≡ answer.reply → answer.mounted ≡ mounted_in old → spoils result ≡ false → old.device.spoilt ≡ false
-    → Keeps (mounted_in old) answer.mounted → IsNumbered (mounted_in old) numbers → IsReplyTo told result reply buffer → Answers line reply buffer old old numbers numbers
+    → Keeps (mounted_in old) answer.mounted → IsNumbered (mounted_in old) numbers → IsReplyTo told result reply kept → Answers line reply kept old old numbers numbers
 tells_look {result = result} {old = old} {numbers = numbers} answer does replies looks none unspoilt keeps numbered tells =
     tells_call answer does (λ _. replies) (λ _. sym looks) keeps numbered (look_cause none unspoilt) tells
 
 -- a reply where nothing happens
-pub still : {line : Line} {reply : Reply} {buffer : List ℕ} {old : VolumeState} {numbers : List (Option Handle)}
-    → IsWritable reply buffer → line_now buffer (table_of (mounted_in old) numbers) line ≡ says (text_of reply buffer) (table_of (mounted_in old) numbers)
-    → ends reply ≡ false → IsNumbered (mounted_in old) numbers → old.device.spoilt ≡ false → Answers line reply buffer old old numbers numbers
+pub still : {line : Line} {reply : Reply} {kept : Kept} {old : VolumeState} {numbers : List (Option Handle)}
+    → IsWritable reply kept → line_now kept.bytes (table_of (mounted_in old) numbers) line ≡ says (text_of reply kept) (table_of (mounted_in old) numbers)
+    → ends reply ≡ false → IsNumbered (mounted_in old) numbers → old.device.spoilt ≡ false → Answers line reply kept old old numbers numbers
 still {reply = reply} writable does goes numbered unspoilt = record {
   writable = writable;
   step = λ _. does;
@@ -75,11 +75,11 @@ still {reply = reply} writable does goes numbered unspoilt = record {
 
 -- ---- replies
 
-pub tells_refused : {X : Type 0} {told : X → List ℕ} (refusal : Refusal) (buffer : List ℕ) → IsReplyTo told (Err refusal) (Refused refusal) buffer
-tells_refused refusal buffer = record { writable = tt; text = refl; same = refl }
+pub tells_refused : {X : Type 0} {told : X → List ℕ} (refusal : Refusal) (kept : Kept) → IsReplyTo told (Err refusal) (Refused refusal) kept
+tells_refused refusal kept = record { writable = tt; text = refl; same = refl }
 
 -- a reply that is no refusal
-pub tells_value : {X : Type 0} {told : X → List ℕ} {value : X} {reply : Reply} {buffer : List ℕ} → IsWritable reply buffer → text_of reply buffer ≡ told value → told_by reply ≡ Ok tt → IsReplyTo told (Ok value) reply buffer
+pub tells_value : {X : Type 0} {told : X → List ℕ} {value : X} {reply : Reply} {kept : Kept} → IsWritable reply kept → text_of reply kept ≡ told value → told_by reply ≡ Ok tt → IsReplyTo told (Ok value) reply kept
 tells_value writable same goes = record { writable = writable; text = same; same = ap without_value goes }
 
 -- a read's bytes are in front of what else there is

@@ -18,7 +18,7 @@ use Rattle.zn_run.specs.Steps.{MayStarve, StepMeans, Stepped}
 use Rattle.zn_run.specs.declared.machine.Step.{Step}
 use Rattle.zn_run.specs.declared.machine.Step.TheVariants.{Done, BadLine, Broken, SinkFault, Memory}
 use Rattle.zn_volume.specs.Means.{spoils}
-use Rattle.zn_session.specs.Replies.{text_of}
+use Rattle.zn_session.specs.Replies.{Kept, text_of}
 use Rattle.zn_session.specs.SessionState.{HeldState, SessionState, session_of, table_by, table_in, machine_of}
 use Rattle.zn_session.specs.Steps.{ends, told_by, ended_by, stops, LineCause, Means, Dropped, Said, Performed}
 use Rattle.zn_session.specs.declared.replies.Reply.{Reply}
@@ -26,9 +26,9 @@ use Rattle.zn_session.specs.declared.replies.Reply.{Reply}
 -- ---- the end of a line
 
 -- a line that ends the run
-pub ends_at_once : (line : Line) (reply : Reply) (buffer entropy : List ℕ) (old new : HeldState) (numbers0 numbers : List (Option Handle)) → ends reply ≡ true → Means line_now line reply buffer entropy old new numbers0 numbers
-    → Means line_step line reply buffer entropy old new numbers0 numbers
-ends_at_once line reply buffer entropy old new numbers0 numbers stopped means = record {
+pub ends_at_once : (line : Line) (reply : Reply) (kept : Kept) (entropy : List ℕ) (old new : HeldState) (numbers0 numbers : List (Option Handle)) → ends reply ≡ true → Means line_now line reply kept entropy old new numbers0 numbers
+    → Means line_step line reply kept entropy old new numbers0 numbers
+ends_at_once line reply kept entropy old new numbers0 numbers stopped means = record {
   given = means.given;
   writable = means.writable;
   step = λ goes. absurd (false≢true (sym goes ∙ stopped));
@@ -42,16 +42,16 @@ unfolding line_step
 step_by given table0 line text table is = ap (λ (s : session.Stepped). says s.text (dropped_unless s.table.world.powered s.table)) is
 
 -- a line that goes on
-pub ends_dropped : (line : Line) (reply : Reply) (buffer entropy : List ℕ) (old mid new : HeldState) (numbers0 numbers1 numbers : List (Option Handle)) → ends reply ≡ false → Means line_now line reply buffer entropy old mid numbers0 numbers1 → Dropped mid new numbers1 numbers
-    → Means line_step line reply buffer entropy old new numbers0 numbers
-ends_dropped line reply buffer entropy old mid new numbers0 numbers1 numbers goes means dropped =
+pub ends_dropped : (line : Line) (reply : Reply) (kept : Kept) (entropy : List ℕ) (old mid new : HeldState) (numbers0 numbers1 numbers : List (Option Handle)) → ends reply ≡ false → Means line_now line reply kept entropy old mid numbers0 numbers1 → Dropped mid new numbers1 numbers
+    → Means line_step line reply kept entropy old new numbers0 numbers
+ends_dropped line reply kept entropy old mid new numbers0 numbers1 numbers goes means dropped =
     let Causes : DeviceState → Type 0 = λ d. LineCause (takes_itself line) (told_by reply) old.device d in
     record {
       given = means.given;
       writable = means.writable;
       step = λ _.
-          step_by means.given (table_by entropy old numbers0) line (text_of reply buffer) (table_by entropy mid numbers1) (means.step goes)
-          ∙ ap (says (text_of reply buffer)) (sym (dropped.table entropy));
+          step_by means.given (table_by entropy old numbers0) line (text_of reply kept) (table_by entropy mid numbers1) (means.step goes)
+          ∙ ap (says (text_of reply kept)) (sym (dropped.table entropy));
       numbered = λ _. dropped.numbered;
       opened = λ _. omega (arith, means.opened goes, dropped.opened);
       cause = subst Causes (sym dropped.device) means.cause;
@@ -140,19 +140,19 @@ module _ (seen : SessionState) (held : HeldState) (numbers : List (Option Handle
     memory = memory ∙ same_takes;
   }
 
-  module _ (line : Line) (reply : Reply) (buffer : List ℕ) (held' : HeldState) (numbers' : List (Option Handle)) (means : Means line_step line reply buffer entropy held held' numbers numbers') where
+  module _ (line : Line) (reply : Reply) (kept : Kept) (held' : HeldState) (numbers' : List (Option Handle)) (means : Means line_step line reply kept entropy held held' numbers numbers') where
     -- what the line does to the table
-    does : ends reply ≡ false → line_step means.given (table_in seen) line ≡ says (text_of reply buffer) (table_by entropy held' numbers')
+    does : ends reply ≡ false → line_step means.given (table_in seen) line ≡ says (text_of reply kept) (table_by entropy held' numbers')
     does goes = ap (λ table. line_step means.given table line) (sym same_table) ∙ means.step goes
 
     -- a line whose reply is written, or cut off
-    pub goes_means : (step : Step) (shown : List ℕ) (over' : Bool) (sink0 sink : SinkState) → ends reply ≡ false → shown ≡ buffer → Said step (text_of reply shown) sink0 sink → over' ≡ stops step
+    pub goes_means : (step : Step) (shown : Kept) (over' : Bool) (sink0 sink : SinkState) → ends reply ≡ false → shown ≡ kept → Said step (text_of reply shown) sink0 sink → over' ≡ stops step
         → Stepped step (Ok (Some line)) (state_of (machine_of seen) sink0) (state_of (machine_of (after held' numbers' over')) sink)
-    goes_means step shown over' sink0 sink goes same_buffer said ended =
-        let Says : List ℕ → Type 0 = λ bytes. Said step (text_of reply bytes) sink0 sink in
+    goes_means step shown over' sink0 sink goes same_kept said ended =
+        let Says : Kept → Type 0 = λ all. Said step (text_of reply all) sink0 sink in
         counted held' numbers' over' sink0 sink means.cause.memory
-        (carried means.given step line (text_of reply buffer) (state_of (machine_of seen) sink0) (state_of (machine_of (after held' numbers' over')) sink)
-        (does goes) (subst Says same_buffer said) (means.cause.whole goes ∙ same_breaks) ended)
+        (carried means.given step line (text_of reply kept) (state_of (machine_of seen) sink0) (state_of (machine_of (after held' numbers' over')) sink)
+        (does goes) (subst Says same_kept said) (means.cause.whole goes ∙ same_breaks) ended)
 
     module _ (spoiling : ends reply ≡ true) where
       -- over a device whose commands take no memory, where the count of breaks is another one, a break is told
@@ -174,7 +174,7 @@ module _ (seen : SessionState) (held : HeldState) (numbers : List (Option Handle
             reads = refl;
             risen = subst (λ (d : DeviceState). HasRisen d.breaks held'.device.breaks) same_device risen;
             leaves = record {
-              geometry = means.cause.geometry spoiling ∙ ap (λ (d : DeviceState). geometry_of d.world) same_device;
+              geometry = means.cause.geometry ∙ ap (λ (d : DeviceState). geometry_of d.world) same_device;
               powered = λ none. ap (λ (d : DeviceState). d.world.powered) (sym same_device) ∙ means.cause.powered (told none);
               still_powered = λ none. means.cause.still_powered (told none);
             };

@@ -14,3 +14,5 @@ pub mod Harming
 pub mod HeldCases
 pub mod Carried
 pub mod Fronts
+pub mod Requests
+pub mod ToldZones

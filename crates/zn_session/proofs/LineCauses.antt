@@ -40,7 +40,7 @@ call_causes itself cause = record {
   whole = cause.whole;
   powered = cause.powered;
   still_powered = cause.still_powered;
-  geometry = λ _. cause.geometry;
+  geometry = cause.geometry;
 }
 
 -- a line that leaves the device
@@ -55,7 +55,7 @@ still_causes itself d unspoilt = record {
   whole = λ _. refl;
   powered = λ told. absurd cc;
   still_powered = λ told. absurd cc;
-  geometry = λ _. refl;
+  geometry = refl;
 }
 
 -- a call that is refused without a command
@@ -70,7 +70,7 @@ refused_causes itself refusal d mild unspoilt = record {
   whole = λ _. refl;
   powered = λ told. absurd (false≢true (sym mild ∙ ap spoils told));
   still_powered = λ told. absurd (false≢true (sym mild ∙ ap spoils told));
-  geometry = λ _. refl;
+  geometry = refl;
 }
 
 -- ---- formats
@@ -108,7 +108,7 @@ format_causes {result = result} cause geometry = record {
   whole = λ goes. cause.whole (format_unspoilt cause goes);
   powered = λ told. cause.powered (format_is_broken result told);
   still_powered = λ told. cause.still_powered (format_is_broken result told);
-  geometry = λ _. geometry;
+  geometry = geometry;
 }
 
 pub format_goes : {result : FormatReply} {old new : DeviceState} → FormatCause result old new → spoils (format_told result) ≡ false → new.spoilt ≡ false
@@ -146,7 +146,7 @@ mount_causes {why = why} {old = old} cause = record {
   whole = λ goes. cause.whole (mount_goes cause goes);
   powered = λ told. cause.powered (mount_is_broken why told);
   still_powered = λ told. cause.still_powered (mount_is_broken why told);
-  geometry = λ _. cause.geometry;
+  geometry = cause.geometry;
 }
 
 pub mounted_causes : {opts : MountOpts} {old : DeviceState} {new : VolumeState} → old.spoilt ≡ false → IsMounted opts old new → LineCause true (Ok tt) old new.device
@@ -160,5 +160,5 @@ mounted_causes unspoilt is = record {
   whole = λ _. ap (λ (d : DeviceState). d.breaks) is.device;
   powered = λ told. absurd cc;
   still_powered = λ told. absurd cc;
-  geometry = λ ends. absurd (false≢true ends);
+  geometry = is.geometry;
 }

@@ -17,9 +17,9 @@ use Rattle.zn_lines.specs.Memory.{takes_itself}
 use Rattle.zn_lines.specs.Table.{Table, no_numbers, handle_of, with_mounted, without_number}
 use Rattle.zn_script.specs.Meant.{line_meant}
 use Rattle.zn_script.specs.declared.Line.{Line}
-use Rattle.zn_script.specs.declared.Line.TheVariants.{Mkfs, Mount, Umount, Open, Close, Size, Read, Write, Truncate, Sync, Stat, List as Listing, Attr, Change, Fault, Turn}
+use Rattle.zn_script.specs.declared.Line.TheVariants.{Mkfs, Mount, Umount, Open, Close, Size, Read, Write, Truncate, Sync, Submit, Complete, Reap, Stat, List as Listing, Attr, Change, Zones, Fault, Turn, PowerLoss, PowerLossIn, PowerOn}
 use Rattle.zn_volume.specs.VolumeState.{VolumeState, mounted_in}
-use Rattle.zn_session.specs.Replies.{text_of, IsWritable}
+use Rattle.zn_session.specs.Replies.{Kept, text_of, IsWritable}
 use Rattle.zn_session.specs.SessionState.{HeldState, bare_held, mounted_held, table_by, table_of, AreNumbered}
 use Rattle.zn_session.specs.Steps.{IsCall, told_by, Answers, LineCause, Means}
 use Rattle.zn_session.specs.declared.replies.Reply.{Reply}
@@ -87,32 +87,39 @@ module _ (entropy : List ℕ) (table : Table) where
   line_but given (Write n offset word) call = volume_but table.volume _ _ (λ m. handle_but (handle_of table n) _ _ (λ h. refl))
   line_but given (Truncate n size) call = volume_but table.volume _ _ (λ m. handle_but (handle_of table n) _ _ (λ h. refl))
   line_but given (Sync n) call = volume_but table.volume _ _ (λ m. handle_but (handle_of table n) _ _ (λ h. refl))
+  line_but given (Submit n offset word) call = volume_but table.volume _ _ (λ m. handle_but (handle_of table n) _ _ (λ h. refl))
+  line_but given Complete call = volume_but table.volume _ _ (λ m. refl)
+  line_but given Reap call = volume_but table.volume _ _ (λ m. refl)
   line_but given (Stat path) call = volume_but table.volume _ _ (λ m. refl)
   line_but given (Listing path) call = volume_but table.volume _ _ (λ m. refl)
   line_but given Attr call = volume_but table.volume _ _ (λ m. refl)
   line_but given (Change change) call = volume_but table.volume _ _ (λ m. refl)
+  line_but given Zones call = absurd call
   line_but given (Fault zone command keep) call = absurd call
   line_but given (Turn zone to) call = absurd call
+  line_but given (PowerLoss fill words) call = absurd call
+  line_but given (PowerLossIn zone command carried_out fill words) call = absurd call
+  line_but given PowerOn call = absurd call
 
 -- ---- calls
 
 -- a call that was answered on a mounted volume
-pub called : (line : Line) (reply : Reply) (buffer entropy : List ℕ) (old new : VolumeState) (numbers0 numbers : List (Option Handle)) → IsCall line → Answers (line_meant line) reply buffer old new numbers0 numbers
-    → Means line_now (line_meant line) reply buffer entropy (mounted_held old) (mounted_held new) numbers0 numbers
-called line reply buffer entropy old new numbers0 numbers call answers = record {
-  given = buffer;
+pub called : (line : Line) (reply : Reply) (kept : Kept) (entropy : List ℕ) (old new : VolumeState) (numbers0 numbers : List (Option Handle)) → IsCall line → Answers (line_meant line) reply kept old new numbers0 numbers
+    → Means line_now (line_meant line) reply kept entropy (mounted_held old) (mounted_held new) numbers0 numbers
+called line reply kept entropy old new numbers0 numbers call answers = record {
+  given = kept.bytes;
   writable = answers.writable;
-  step = λ goes. line_but entropy (table_of (mounted_in old) numbers0) buffer line call ∙ ap (but entropy) (answers.step goes);
+  step = λ goes. line_but entropy (table_of (mounted_in old) numbers0) kept.bytes line call ∙ ap (but entropy) (answers.step goes);
   numbered = answers.numbered;
   opened = answers.opened;
   cause = call_causes (takes_itself (line_meant line)) answers.cause;
 }
 
 -- a reply that leaves all as it is
-pub leaves_all : (line : lines.Line) (reply : Reply) (buffer entropy : List ℕ) (held : HeldState) (numbers : List (Option Handle)) → IsWritable reply buffer → told_by reply ≡ Ok tt
-    → line_now [] (table_by entropy held numbers) line ≡ says (text_of reply buffer) (table_by entropy held numbers) → AreNumbered held numbers → held.device.spoilt ≡ false
-    → Means line_now line reply buffer entropy held held numbers numbers
-leaves_all line reply buffer entropy held numbers writable told does numbered unspoilt =
+pub leaves_all : (line : lines.Line) (reply : Reply) (kept : Kept) (entropy : List ℕ) (held : HeldState) (numbers : List (Option Handle)) → IsWritable reply kept → told_by reply ≡ Ok tt
+    → line_now [] (table_by entropy held numbers) line ≡ says (text_of reply kept) (table_by entropy held numbers) → AreNumbered held numbers → held.device.spoilt ≡ false
+    → Means line_now line reply kept entropy held held numbers numbers
+leaves_all line reply kept entropy held numbers writable told does numbered unspoilt =
     let Causes : Result (Unit {0}) Refusal → Type 0 = λ answer. LineCause (takes_itself line) answer held.device held.device in
     record {
       given = [];
@@ -138,15 +145,22 @@ bare_now given entropy (Read n offset len) d numbers call = refl
 bare_now given entropy (Write n offset word) d numbers call = refl
 bare_now given entropy (Truncate n size) d numbers call = refl
 bare_now given entropy (Sync n) d numbers call = refl
+bare_now given entropy (Submit n offset word) d numbers call = refl
+bare_now given entropy Complete d numbers call = refl
+bare_now given entropy Reap d numbers call = refl
 bare_now given entropy (Stat path) d numbers call = refl
 bare_now given entropy (Listing path) d numbers call = refl
 bare_now given entropy Attr d numbers call = refl
 bare_now given entropy (Change change) d numbers call = refl
+bare_now given entropy Zones d numbers call = absurd call
 bare_now given entropy (Fault zone command keep) d numbers call = absurd call
 bare_now given entropy (Turn zone to) d numbers call = absurd call
+bare_now given entropy (PowerLoss fill words) d numbers call = absurd call
+bare_now given entropy (PowerLossIn zone command carried_out fill words) d numbers call = absurd call
+bare_now given entropy PowerOn d numbers call = absurd call
 
 -- a call without a volume
-pub not_mounted : (line : Line) (buffer entropy : List ℕ) (d : DeviceState) (numbers : List (Option Handle)) → IsCall line → numbers ≡ no_numbers → d.spoilt ≡ false
-    → Means line_now (line_meant line) NotMounted buffer entropy (bare_held d) (bare_held d) numbers numbers
-not_mounted line buffer entropy d numbers call none unspoilt =
-    leaves_all (line_meant line) NotMounted buffer entropy (bare_held d) numbers tt refl (bare_now [] entropy line d numbers call) none unspoilt
+pub not_mounted : (line : Line) (kept : Kept) (entropy : List ℕ) (d : DeviceState) (numbers : List (Option Handle)) → IsCall line → numbers ≡ no_numbers → d.spoilt ≡ false
+    → Means line_now (line_meant line) NotMounted kept entropy (bare_held d) (bare_held d) numbers numbers
+not_mounted line kept entropy d numbers call none unspoilt =
+    leaves_all (line_meant line) NotMounted kept entropy (bare_held d) numbers tt refl (bare_now [] entropy line d numbers call) none unspoilt

@@ -23,6 +23,7 @@ use Rattle.zn_lines.specs.Table.{Table, no_numbers}
 use Rattle.zn_volume.specs.Means.{spoils}
 use Rattle.zn_volume.specs.Mounts.{IsMounted, MountCause}
 use Rattle.zn_volume.specs.VolumeState.{VolumeState, mounted_in}
+use Rattle.zn_session.specs.Replies.{Kept}
 use Rattle.zn_session.specs.SessionState.{HeldState, bare_held, mounted_held, table_by, unkeyed_numbers, IsNumbered, AreNumbered}
 use Rattle.zn_session.specs.Steps.{LineCause, Means, Dropped}
 use Rattle.zn_session.specs.declared.replies.Reply.TheVariants.{NotMounted, AlreadyMounted, OptionRefused, MountRefused, Refused, Done}
@@ -42,15 +43,15 @@ of_mounted P is holds = let Of : MountAnswer → Type 0 = λ a. IfOk a.reply P i
 
 -- ---- mounts
 
-module _ (text : Option (List ℕ)) (buffer entropy : List ℕ) (numbers : List (Option Handle)) where
+module _ (text : Option (List ℕ)) (kept : Kept) (entropy : List ℕ) (numbers : List (Option Handle)) where
   mount_now : (given : List ℕ) (d : DeviceState) → line_now given (table_by entropy (bare_held d) numbers) (Mount text) ≡ mount_with given (options_in text) (table_by entropy (bare_held d) numbers)
   unfolding line_now
   mount_now given d = refl
 
   pub bad_options : (d : DeviceState) (error : OptError) → numbers ≡ no_numbers → d.spoilt ≡ false → options_in text ≡ Err error
-      → Means line_now (Mount text) (OptionRefused error) buffer entropy (bare_held d) (bare_held d) numbers numbers
+      → Means line_now (Mount text) (OptionRefused error) kept entropy (bare_held d) (bare_held d) numbers numbers
   bad_options d error none unspoilt is =
-      leaves_all (Mount text) (OptionRefused error) buffer entropy (bare_held d) numbers tt refl
+      leaves_all (Mount text) (OptionRefused error) kept entropy (bare_held d) numbers tt refl
       (mount_now [] d ∙ ap (λ o. mount_with [] o (table_by entropy (bare_held d) numbers)) is) none unspoilt
 
   module _ (d : DeviceState) (opts : MountOpts) (none : numbers ≡ no_numbers) (unspoilt : d.spoilt ≡ false) (opts_is : options_in text ≡ Ok opts) where
@@ -59,7 +60,7 @@ module _ (text : Option (List ℕ)) (buffer entropy : List ℕ) (numbers : List 
         mount_now given d ∙ ap (λ o. mount_with given o (table_by entropy (bare_held d) numbers)) opts_is
         ∙ ap (λ (a : MountAnswer). mounts a (table_by entropy (bare_held d) numbers)) is
 
-    pub mounted : (new : VolumeState) → IsMounted opts d new → Means line_now (Mount text) Done buffer entropy (bare_held d) (mounted_held new) numbers numbers
+    pub mounted : (new : VolumeState) → IsMounted opts d new → Means line_now (Mount text) Done kept entropy (bare_held d) (mounted_held new) numbers numbers
     mounted new is =
         let keyless = of_mounted (λ v. unkeyed_volume v ≡ v) is (mount_unkeyed is.given d.world opts) in
         let once = of_mounted IsUsedOnce is (mount_once is.given d.world opts) in
@@ -75,7 +76,7 @@ module _ (text : Option (List ℕ)) (buffer entropy : List ℕ) (numbers : List 
           cause = mounted_causes unspoilt is;
         }
 
-    pub unmounted : (why : MountError) (after : DeviceState) → MountCause opts why d after → Means line_now (Mount text) (MountRefused why) buffer entropy (bare_held d) (bare_held after) numbers numbers
+    pub unmounted : (why : MountError) (after : DeviceState) → MountCause opts why d after → Means line_now (Mount text) (MountRefused why) kept entropy (bare_held d) (bare_held after) numbers numbers
     unmounted why after cause = record {
       given = cause.given;
       writable = tt;
@@ -94,15 +95,15 @@ already_mount : (given entropy : List ℕ) (text : Option (List ℕ)) (seen : Vo
 unfolding line_now
 already_mount given entropy text seen numbers = refl
 
-pub mkfs_mounted : (words : FormatWords) (buffer entropy : List ℕ) (seen : VolumeState) (numbers : List (Option Handle)) → IsNumbered (mounted_in seen) numbers → seen.device.spoilt ≡ false
-    → Means line_now (Mkfs words) AlreadyMounted buffer entropy (mounted_held seen) (mounted_held seen) numbers numbers
-mkfs_mounted words buffer entropy seen numbers numbered unspoilt =
-    leaves_all (Mkfs words) AlreadyMounted buffer entropy (mounted_held seen) numbers tt refl (already_mkfs [] entropy words seen numbers) numbered unspoilt
+pub mkfs_mounted : (words : FormatWords) (kept : Kept) (entropy : List ℕ) (seen : VolumeState) (numbers : List (Option Handle)) → IsNumbered (mounted_in seen) numbers → seen.device.spoilt ≡ false
+    → Means line_now (Mkfs words) AlreadyMounted kept entropy (mounted_held seen) (mounted_held seen) numbers numbers
+mkfs_mounted words kept entropy seen numbers numbered unspoilt =
+    leaves_all (Mkfs words) AlreadyMounted kept entropy (mounted_held seen) numbers tt refl (already_mkfs [] entropy words seen numbers) numbered unspoilt
 
-pub mount_mounted : (text : Option (List ℕ)) (buffer entropy : List ℕ) (seen : VolumeState) (numbers : List (Option Handle)) → IsNumbered (mounted_in seen) numbers → seen.device.spoilt ≡ false
-    → Means line_now (Mount text) AlreadyMounted buffer entropy (mounted_held seen) (mounted_held seen) numbers numbers
-mount_mounted text buffer entropy seen numbers numbered unspoilt =
-    leaves_all (Mount text) AlreadyMounted buffer entropy (mounted_held seen) numbers tt refl (already_mount [] entropy text seen numbers) numbered unspoilt
+pub mount_mounted : (text : Option (List ℕ)) (kept : Kept) (entropy : List ℕ) (seen : VolumeState) (numbers : List (Option Handle)) → IsNumbered (mounted_in seen) numbers → seen.device.spoilt ≡ false
+    → Means line_now (Mount text) AlreadyMounted kept entropy (mounted_held seen) (mounted_held seen) numbers numbers
+mount_mounted text kept entropy seen numbers numbered unspoilt =
+    leaves_all (Mount text) AlreadyMounted kept entropy (mounted_held seen) numbers tt refl (already_mount [] entropy text seen numbers) numbered unspoilt
 
 -- ---- unmounts
 
@@ -129,9 +130,9 @@ mild_refusal m why is = go m.world.powered (nat_lt 0 (length m.volume.handles.li
     go true true is = ap (λ w. spoils {X = Unit {0}} (Err w)) (sym (same_Some Busy why is))
     go true false is = absurd (none-some why is)
 
-pub umounted : (buffer entropy : List ℕ) (seen : VolumeState) (after : DeviceState) (numbers free : List (Option Handle)) → seen.device.spoilt ≡ false → unmount_refusal (mounted_in seen) ≡ None → after ≡ seen.device → free ≡ no_numbers
-    → Means line_now Umount Done buffer entropy (mounted_held seen) (bare_held after) numbers free
-umounted buffer entropy seen after numbers free unspoilt is same none =
+pub umounted : (kept : Kept) (entropy : List ℕ) (seen : VolumeState) (after : DeviceState) (numbers free : List (Option Handle)) → seen.device.spoilt ≡ false → unmount_refusal (mounted_in seen) ≡ None → after ≡ seen.device → free ≡ no_numbers
+    → Means line_now Umount Done kept entropy (mounted_held seen) (bare_held after) numbers free
+umounted kept entropy seen after numbers free unspoilt is same none =
     let Causes : DeviceState → Type 0 = λ d. LineCause false (Ok tt) seen.device d in
     record {
       given = [];
@@ -145,9 +146,9 @@ umounted buffer entropy seen after numbers free unspoilt is same none =
       cause = subst Causes (sym same) (still_causes false seen.device unspoilt);
     }
 
-pub still_on : (buffer entropy : List ℕ) (seen : VolumeState) (numbers : List (Option Handle)) (why : Refusal) → seen.device.spoilt ≡ false → IsNumbered (mounted_in seen) numbers → unmount_refusal (mounted_in seen) ≡ Some why
-    → Means line_now Umount (Refused why) buffer entropy (mounted_held seen) (mounted_held seen) numbers numbers
-still_on buffer entropy seen numbers why unspoilt numbered is = record {
+pub still_on : (kept : Kept) (entropy : List ℕ) (seen : VolumeState) (numbers : List (Option Handle)) (why : Refusal) → seen.device.spoilt ≡ false → IsNumbered (mounted_in seen) numbers → unmount_refusal (mounted_in seen) ≡ Some why
+    → Means line_now Umount (Refused why) kept entropy (mounted_held seen) (mounted_held seen) numbers numbers
+still_on kept entropy seen numbers why unspoilt numbered is = record {
   given = [];
   writable = tt;
   step = λ goes. umount_by [] entropy seen numbers (Some why) is;
@@ -160,10 +161,10 @@ bare_umount : (given entropy : List ℕ) (d : DeviceState) (numbers : List (Opti
 unfolding line_now
 bare_umount given entropy d numbers = refl
 
-pub umount_bare : (buffer entropy : List ℕ) (d : DeviceState) (numbers : List (Option Handle)) → numbers ≡ no_numbers → d.spoilt ≡ false
-    → Means line_now Umount NotMounted buffer entropy (bare_held d) (bare_held d) numbers numbers
-umount_bare buffer entropy d numbers none unspoilt =
-    leaves_all Umount NotMounted buffer entropy (bare_held d) numbers tt refl (bare_umount [] entropy d numbers) none unspoilt
+pub umount_bare : (kept : Kept) (entropy : List ℕ) (d : DeviceState) (numbers : List (Option Handle)) → numbers ≡ no_numbers → d.spoilt ≡ false
+    → Means line_now Umount NotMounted kept entropy (bare_held d) (bare_held d) numbers numbers
+umount_bare kept entropy d numbers none unspoilt =
+    leaves_all Umount NotMounted kept entropy (bare_held d) numbers tt refl (bare_umount [] entropy d numbers) none unspoilt
 
 -- ---- the end of a line
 

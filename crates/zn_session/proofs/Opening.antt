@@ -13,6 +13,7 @@ use Rattle.zn_model.proofs.KeysUsed.{open_once, close_once}
 use Rattle.zn_volume.specs.Causes.{CallCause}
 use Rattle.zn_volume.specs.Means.{key_in}
 use Rattle.zn_volume.specs.VolumeState.{VolumeState, mounted_in}
+use Rattle.zn_session.specs.Replies.{Kept}
 use Rattle.zn_session.specs.SessionState.{table_of, number_at, IsNumbered}
 use Rattle.zn_session.specs.Steps.{Answers, IsReplyTo, is_busy_answer}
 use Rattle.zn_session.specs.declared.replies.Reply.{Reply}
@@ -23,45 +24,45 @@ use Rattle.zn_session.proofs.Opens.{Made, open_opens, open_step, numbers_by, num
 
 -- ---- opens
 
-module _ (old new : VolumeState) (numbers : List (Option Handle)) (n : ℕ) (path : List ℕ) (mode : Mode) (who : Who) (buffer : List ℕ) (is : IsNumbered (mounted_in old) numbers) (free : number_at numbers n ≡ None) where
+module _ (old new : VolumeState) (numbers : List (Option Handle)) (n : ℕ) (path : List ℕ) (mode : Mode) (who : Who) (kept : Kept) (is : IsNumbered (mounted_in old) numbers) (free : number_at numbers n ≡ None) where
   pub opened_answers : (h : Handle) → n < length numbers → (new.device.spoilt ≡ false → Ok h ≡ (open_call (mounted_in old) (key_in (Ok h)) path mode who).reply) → (new.device.spoilt ≡ false → mounted_in new ≡ (open_call (mounted_in old) (key_in (Ok h)) path mode who).mounted)
-      → CallCause (Ok h) old.device new.device → Answers (OpenFile n path mode who) Done buffer old new numbers (slice_set numbers n (Some h))
+      → CallCause (Ok h) old.device new.device → Answers (OpenFile n path mode who) Done kept old new numbers (slice_set numbers n (Some h))
   opened_answers h below replies mounts cause =
       let answer = open_call (mounted_in old) h.key path mode who in
       let reply : Ok h ≡ answer.reply = replies cause.spoilt in
       let made : Made old.volume.handles h answer.mounted.volume.handles = subst (λ (r : Result Handle Refusal). MatchResult r (λ k. Made old.volume.handles k answer.mounted.volume.handles) (λ refusal. answer.mounted.volume.handles ≡ old.volume.handles)) (sym reply) (open_opens (mounted_in old) h.key path mode who) in
-      let does = open_step buffer (mounted_in old) numbers n h.key path mode who free ∙ ap (λ (r : Result Handle Refusal). says (reply_text (λ k. ok_text) refusal_name answer.reply) (table_of answer.mounted (numbers_by r numbers n))) (sym reply) in
+      let does = open_step kept.bytes (mounted_in old) numbers n h.key path mode who free ∙ ap (λ (r : Result Handle Refusal). says (reply_text (λ k. ok_text) refusal_name answer.reply) (table_of answer.mounted (numbers_by r numbers n))) (sym reply) in
       tells_numbers {told = λ (k : Handle). ok_text} answer (slice_set numbers n (Some h)) (λ _. does) (λ _. reply) mounts (λ _. numbered_open (mounted_in old) answer.mounted numbers n h below is made (open_once (mounted_in old) h.key path mode who is.once)) (λ _. omega (arith, made.counted)) cause (tells_value tt refl refl)
 
   pub refused_answers : (refusal : Refusal) → (new.device.spoilt ≡ false → Err refusal ≡ (open_call (mounted_in old) (key_in (Err refusal)) path mode who).reply) → (new.device.spoilt ≡ false → mounted_in new ≡ (open_call (mounted_in old) (key_in (Err refusal)) path mode who).mounted)
-      → CallCause {X = Handle} (Err refusal) old.device new.device → Answers (OpenFile n path mode who) (Refused refusal) buffer old new numbers numbers
+      → CallCause {X = Handle} (Err refusal) old.device new.device → Answers (OpenFile n path mode who) (Refused refusal) kept old new numbers numbers
   refused_answers refusal replies mounts cause =
       let answer = open_call (mounted_in old) 0 path mode who in
-      let kept : answer.reply ≡ Err refusal → answer.mounted.volume.handles ≡ old.volume.handles = λ same. subst (λ (r : Result Handle Refusal). MatchResult r (λ k. Made old.volume.handles k answer.mounted.volume.handles) (λ other. answer.mounted.volume.handles ≡ old.volume.handles)) same (open_opens (mounted_in old) 0 path mode who) in
-      let does : new.device.spoilt ≡ false → line_now buffer (table_of (mounted_in old) numbers) (OpenFile n path mode who) ≡ says (reply_text (λ k. ok_text) refusal_name answer.reply) (table_of answer.mounted numbers) =
-      λ unspoilt. open_step buffer (mounted_in old) numbers n 0 path mode who free ∙ ap (λ (r : Result Handle Refusal). says (reply_text (λ k. ok_text) refusal_name answer.reply) (table_of answer.mounted (numbers_by r numbers n))) (sym (replies unspoilt)) in
+      let stays : answer.reply ≡ Err refusal → answer.mounted.volume.handles ≡ old.volume.handles = λ same. subst (λ (r : Result Handle Refusal). MatchResult r (λ k. Made old.volume.handles k answer.mounted.volume.handles) (λ other. answer.mounted.volume.handles ≡ old.volume.handles)) same (open_opens (mounted_in old) 0 path mode who) in
+      let does : new.device.spoilt ≡ false → line_now kept.bytes (table_of (mounted_in old) numbers) (OpenFile n path mode who) ≡ says (reply_text (λ k. ok_text) refusal_name answer.reply) (table_of answer.mounted numbers) =
+      λ unspoilt. open_step kept.bytes (mounted_in old) numbers n 0 path mode who free ∙ ap (λ (r : Result Handle Refusal). says (reply_text (λ k. ok_text) refusal_name answer.reply) (table_of answer.mounted (numbers_by r numbers n))) (sym (replies unspoilt)) in
       tells_numbers {told = λ (k : Handle). ok_text} answer numbers does replies mounts
-      (λ unspoilt. numbered_busy (mounted_in old) answer.mounted numbers is (kept (sym (replies unspoilt))) (open_once (mounted_in old) 0 path mode who is.once)) (λ unspoilt. no_more (kept (sym (replies unspoilt)))) cause (tells_refused refusal buffer)
+      (λ unspoilt. numbered_busy (mounted_in old) answer.mounted numbers is (stays (sym (replies unspoilt))) (open_once (mounted_in old) 0 path mode who is.once)) (λ unspoilt. no_more (stays (sym (replies unspoilt)))) cause (tells_refused refusal kept)
 
 -- ---- closes
 
-module _ (old new : VolumeState) (numbers : List (Option Handle)) (n : ℕ) (h : Handle) (reply : Reply) (buffer : List ℕ) (result : Result (Unit {0}) Refusal) (is : IsNumbered (mounted_in old) numbers) (e : number_at numbers n ≡ Some h)
-    (replies : new.device.spoilt ≡ false → result ≡ (close_call (mounted_in old) h).reply) (mounts : new.device.spoilt ≡ false → mounted_in new ≡ (close_call (mounted_in old) h).mounted) (cause : CallCause result old.device new.device) (tells : IsReplyTo plain result reply buffer) where
+module _ (old new : VolumeState) (numbers : List (Option Handle)) (n : ℕ) (h : Handle) (reply : Reply) (kept : Kept) (result : Result (Unit {0}) Refusal) (is : IsNumbered (mounted_in old) numbers) (e : number_at numbers n ≡ Some h)
+    (replies : new.device.spoilt ≡ false → result ≡ (close_call (mounted_in old) h).reply) (mounts : new.device.spoilt ≡ false → mounted_in new ≡ (close_call (mounted_in old) h).mounted) (cause : CallCause result old.device new.device) (tells : IsReplyTo plain result reply kept) where
   does : (busy : Bool) → is_busy_answer result ≡ busy → new.device.spoilt ≡ false
-      → line_now buffer (table_of (mounted_in old) numbers) (CloseFile n) ≡ says (reply_text plain refusal_name (close_call (mounted_in old) h).reply) (table_of (close_call (mounted_in old) h).mounted (numbers_after busy numbers n))
+      → line_now kept.bytes (table_of (mounted_in old) numbers) (CloseFile n) ≡ says (reply_text plain refusal_name (close_call (mounted_in old) h).reply) (table_of (close_call (mounted_in old) h).mounted (numbers_after busy numbers n))
   does busy is_busy unspoilt =
-      close_step buffer (mounted_in old) numbers n h is e
+      close_step kept.bytes (mounted_in old) numbers n h is e
       ∙ ap (λ (b : Bool). says (reply_text plain refusal_name (close_call (mounted_in old) h).reply) (table_of (close_call (mounted_in old) h).mounted (numbers_after b numbers n))) (ap is_busy_answer (sym (replies unspoilt)) ∙ is_busy)
 
   opened : (close_call (mounted_in old) h).mounted.volume.handles.opened ≤ old.volume.handles.opened + 1
   opened = omega (arith, (close_closed (mounted_in old) h).opened)
 
-  pub closed_answers : n < length numbers → is_busy_answer result ≡ false → Answers (CloseFile n) reply buffer old new numbers (slice_set numbers n None)
+  pub closed_answers : n < length numbers → is_busy_answer result ≡ false → Answers (CloseFile n) reply kept old new numbers (slice_set numbers n None)
   closed_answers below free =
       tells_numbers (close_call (mounted_in old) h) (slice_set numbers n None) (does false free) replies mounts
       (λ _. numbered_close (mounted_in old) (close_call (mounted_in old) h).mounted numbers n h below is e (close_closed (mounted_in old) h) refl (close_once (mounted_in old) h is.once)) (λ _. opened) cause tells
 
-  pub busy_answers : is_busy_answer result ≡ true → Answers (CloseFile n) reply buffer old new numbers numbers
+  pub busy_answers : is_busy_answer result ≡ true → Answers (CloseFile n) reply kept old new numbers numbers
   busy_answers busy =
       tells_numbers (close_call (mounted_in old) h) numbers (does true busy) replies mounts
       (λ unspoilt. numbered_busy (mounted_in old) (close_call (mounted_in old) h).mounted numbers is ((close_closed (mounted_in old) h).busy (ap is_busy_answer (sym (replies unspoilt)) ∙ busy)) (close_once (mounted_in old) h is.once)) (λ _. opened) cause tells

@@ -1,3 +1,4 @@
 pub mod Replies
 pub mod SessionState
 pub mod Steps
+pub mod Told

@@ -2,7 +2,7 @@
 use Rattle.std.specs.Prelude.{◌≡◌, ◌≤◌, ℕ, Bool, true, false, List, [], length, map}
 use Rattle.std.specs.Prelude.{Option, Some, None, option_map, slice_index_or, IsSome}
 use Rattle.zn_truth.specs.Truth.{Truth}
-use Rattle.zn_truth.specs.World.{calm}
+use Rattle.zn_truth.specs.World.{calm, geometry_of}
 use Rattle.zn_device.specs.States.{DeviceState}
 use Rattle.zn_model.specs.declared.handles.Handle.{Handle}
 use Rattle.zn_model.specs.declared.limits.TheConstants.{MOST_BYTES}
@@ -14,6 +14,7 @@ use Rattle.zn_run.specs.States.{MachineState}
 use Rattle.zn_volume.specs.VolumeState.{VolumeState}
 use Rattle.zn_session.specs.declared.held.Held.{Held}
 use Rattle.zn_session.specs.declared.held.Held.TheVariants.{Bare, Mounted as OnVolume}
+use Rattle.zn_session.specs.declared.room.Room.{Room}
 
 -- ---- what a session holds
 
@@ -126,11 +127,21 @@ abbrev pub opened_on : Option Volume → ℕ
 opened_on None = 0
 opened_on (Some volume) = volume.handles.opened
 
--- The device is there, with a buffer for the bytes of one call. As long as lines may come, it is not spoilt, the
--- numbers are those of the volume's handles, and no more handles were opened than lines came.
-pub record IsSession (session : SessionState) (is_there : Bool) (buffer : ℕ) : Type 0 where
+-- how many zones the device has
+abbrev pub zones_in : HeldState → ℕ
+zones_in held = length (geometry_of held.device.world).kinds
+
+-- There is room for the bytes of one call, and for a report of so many zones.
+pub record HasRoom (count : ℕ) (room : Room) : Type 0 where
+  pub bytes : length room.bytes.items ≡ MOST_BYTES
+  pub infos : length room.infos.items ≡ count
+  pub zones : length room.zones.items ≡ count
+
+-- The device is there, with room for the bytes of one call and a report of its zones. As long as lines may come, it is
+-- not spoilt, the numbers are those of the volume's handles, and no more handles were opened than lines came.
+pub record IsSession (session : SessionState) (is_there : Bool) (room : Room) : Type 0 where
   pub there : is_there ≡ true
-  pub room : buffer ≡ MOST_BYTES
+  pub has_room : HasRoom (zones_in session.held) room
   pub unspoilt : session.over ≡ false → session.held.device.spoilt ≡ false
   pub numbered : session.over ≡ false → AreNumbered session.held session.numbers
   pub few : session.over ≡ false → opened_on session.held.volume ≤ session.steps

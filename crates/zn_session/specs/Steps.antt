@@ -25,11 +25,11 @@ use Rattle.zn_run.specs.Steps.{MayStarve}
 use Rattle.zn_run.specs.declared.machine.Step.{Step}
 use Rattle.zn_run.specs.declared.machine.Step.TheVariants.{Done as done_step, BadLine, Broken, SinkFault, Memory}
 use Rattle.zn_script.specs.declared.Line.{Line as ScriptLine}
-use Rattle.zn_script.specs.declared.Line.TheVariants.{Mkfs, Mount, Umount, Fault, Turn}
+use Rattle.zn_script.specs.declared.Line.TheVariants.{Mkfs, Mount, Umount, Zones, Fault, Turn, PowerLoss, PowerLossIn, PowerOn}
 use Rattle.zn_volume.specs.Causes.{CallCause}
 use Rattle.zn_volume.specs.Means.{spoils, without_value}
 use Rattle.zn_volume.specs.VolumeState.{VolumeState, mounted_in}
-use Rattle.zn_session.specs.Replies.{text_of, IsWritable}
+use Rattle.zn_session.specs.Replies.{Kept, text_of, IsWritable}
 use Rattle.zn_session.specs.SessionState.{HeldState, SessionState, table_of, table_by, table_in, IsNumbered, AreNumbered, opened_on}
 use Rattle.zn_session.specs.declared.replies.Reply.{Reply}
 use Rattle.zn_session.specs.declared.replies.Reply.TheVariants.{Refused, FormatRefused, MountRefused, InjectRefused}
@@ -48,7 +48,7 @@ mount_tells mount_broken = Err HasBroken
 mount_tells mount_starved = Err Starved
 mount_tells _ = Ok tt
 
--- and so does a fault or a turn
+-- and so does what is done to the device
 abbrev pub inject_tells : InjectError → Result (Unit {0}) Refusal
 inject_tells inject_broken = Err HasBroken
 inject_tells inject_starved = Err Starved
@@ -73,24 +73,28 @@ abbrev pub IsCall : ScriptLine → Type 0
 IsCall (Mkfs words) = ⊥
 IsCall (Mount text) = ⊥
 IsCall Umount = ⊥
+IsCall Zones = ⊥
 IsCall (Fault zone command keep) = ⊥
 IsCall (Turn zone to) = ⊥
+IsCall (PowerLoss fill words) = ⊥
+IsCall (PowerLossIn zone command carried_out fill words) = ⊥
+IsCall PowerOn = ⊥
 IsCall _ = Unit {0}
 
 -- A line that is a call on a mounted volume has the reply and leaves the table that are its own, unless it ends the run,
--- and then the reply has its cause. At most one handle is opened. What a read gave is at the front of the buffer.
-pub record Answers (line : Line) (reply : Reply) (buffer : List ℕ) (old new : VolumeState)
+-- and then the reply has its cause. At most one handle is opened. What a read gave is at the front of the bytes kept.
+pub record Answers (line : Line) (reply : Reply) (kept : Kept) (old new : VolumeState)
     (numbers0 numbers : List (Option Handle)) : Type 0 where
-  pub writable : IsWritable reply buffer
-  pub step : ends reply ≡ false → line_now buffer (table_of (mounted_in old) numbers0) line
-      ≡ says (text_of reply buffer) (table_of (mounted_in new) numbers)
+  pub writable : IsWritable reply kept
+  pub step : ends reply ≡ false → line_now kept.bytes (table_of (mounted_in old) numbers0) line
+      ≡ says (text_of reply kept) (table_of (mounted_in new) numbers)
   pub numbered : ends reply ≡ false → IsNumbered (mounted_in new) numbers
   pub opened : ends reply ≡ false → new.volume.handles.opened ≤ old.volume.handles.opened + 1
   pub cause : CallCause (told_by reply) old.device new.device
 
 -- What a line's answer says of the device. It is spoilt only where the answer ends the run; then `Broken` comes only
 -- where the count of breaks rose with the power on, and want of memory only over a device whose commands take some, or
--- before the first command of a line that takes some itself.
+-- before the first command of a line that takes some itself. The geometry stays.
 pub record LineCause (itself : Bool) (told : Result (Unit {0}) Refusal) (old new : DeviceState) : Type 0 where
   pub unspoilt : spoils told ≡ false → new.spoilt ≡ false
   pub memory : new.takes_memory ≡ old.takes_memory
@@ -101,7 +105,7 @@ pub record LineCause (itself : Bool) (told : Result (Unit {0}) Refusal) (old new
   pub whole : spoils told ≡ false → new.breaks ≡ old.breaks
   pub powered : IsErrOf told HasBroken → old.world.powered ≡ true
   pub still_powered : IsErrOf told HasBroken → new.world.powered ≡ true
-  pub geometry : spoils told ≡ true → geometry_of new.world ≡ geometry_of old.world
+  pub geometry : geometry_of new.world ≡ geometry_of old.world
 
 -- what a line makes of a table
 abbrev pub LineMeaning : Type 0
@@ -109,13 +113,13 @@ LineMeaning = List ℕ → Table → Line → Stepped
 
 -- A line has the reply and leaves the table that it means, unless it ends the run, and then the reply has its cause.
 -- At most one handle is opened.
-pub record Means (means : LineMeaning) (line : Line) (reply : Reply) (buffer entropy : List ℕ) (old new : HeldState)
-    (numbers0 numbers : List (Option Handle)) : Type 0 where
+pub record Means (means : LineMeaning) (line : Line) (reply : Reply) (kept : Kept) (entropy : List ℕ)
+    (old new : HeldState) (numbers0 numbers : List (Option Handle)) : Type 0 where
   -- what the line's read gave, which counts only where the device doesn't tell its bytes
   pub given : List ℕ
-  pub writable : IsWritable reply buffer
+  pub writable : IsWritable reply kept
   pub step : ends reply ≡ false → means given (table_by entropy old numbers0) line
-      ≡ says (text_of reply buffer) (table_by entropy new numbers)
+      ≡ says (text_of reply kept) (table_by entropy new numbers)
   pub numbered : ends reply ≡ false → AreNumbered new numbers
   pub opened : ends reply ≡ false → opened_on new.volume ≤ opened_on old.volume + 1
   pub cause : LineCause (takes_itself line) (told_by reply) old.device new.device
@@ -136,9 +140,9 @@ pub record Dropped (old new : HeldState) (numbers0 numbers : List (Option Handle
 
 -- a reply tells what a call on the volume answered
 pub record IsReplyTo {X : Type 0} (told : X → List ℕ) (result : Result X Refusal)
-    (reply : Reply) (buffer : List ℕ) : Type 0 where
-  pub writable : IsWritable reply buffer
-  pub text : text_of reply buffer ≡ reply_text told refusal_name result
+    (reply : Reply) (kept : Kept) : Type 0 where
+  pub writable : IsWritable reply kept
+  pub text : text_of reply kept ≡ reply_text told refusal_name result
   pub same : without_value (told_by reply) ≡ without_value result
 
 -- whether a close was refused since the file is busy

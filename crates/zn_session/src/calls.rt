@@ -3,10 +3,11 @@ ghost use Rattle.std.specs.Prelude.{◌≡◌, ◌≤◌, ◌<◌, ◌^◌, ℕ,
 ghost use Rattle.std.specs.Prelude.{false, Option, Some, Ok, IfOk, IsSome, option_map};
 ghost use Rattle.zn_lines.specs.declared.limits.TheConstants.{LAST_NUMBER};
 ghost use Rattle.zn_model.specs.declared.limits.TheConstants.{MOST_BYTES};
+ghost use Rattle.zn_base.specs.Runs.{Run};
 ghost use Rattle.zn_lines.specs.Grammar.{data_of};
 ghost use Rattle.zn_model.specs.Reading.{read_call};
 ghost use Rattle.zn_lines.specs.Lines.{bytes_of, OpenFile, CloseFile, SizeOf, ReadFrom, WriteTo, TruncateTo, SyncFile};
-ghost use Rattle.zn_lines.specs.Lines.{StatOf, ListOf, Attributes, Changes};
+ghost use Rattle.zn_lines.specs.Lines.{SubmitTo, StatOf, ListOf, Attributes, Changes};
 ghost use Rattle.zn_lines.specs.ReplyTexts.{plain, number_text, read_text, list_text};
 ghost use Rattle.zn_lines.specs.Session.{names_in};
 ghost use Rattle.zn_model.specs.ZoneFiles.{listing_of};
@@ -15,6 +16,8 @@ ghost use Rattle.zn_script.specs.Meant.{line_meant, runs_meant};
 ghost use Rattle.zn_volume.specs.Causes.{CallCause};
 ghost use Rattle.zn_volume.specs.Means.{as_read};
 ghost use Rattle.zn_volume.specs.VolumeState.{mounted_in};
+ghost use Rattle.zn_session.specs.Replies.{Kept, kept_as};
+ghost use Rattle.zn_session.specs.declared.room.ZoneTold.{ZoneTold as TheZoneTold};
 ghost use Rattle.zn_session.specs.SessionState.{IsNumbered, number_at};
 ghost use Rattle.zn_session.specs.Steps.{IsCall, Answers, IsReplyTo, is_busy_answer};
 
@@ -34,7 +37,7 @@ fn handle_of(numbers: &[Option<Handle>], number: u32) -> Option<Handle>
 }
 
 fn done(answer: Result<(), Refusal>) -> Reply<'static>
-    ensures { (buffer : List ℕ) → IsReplyTo plain answer result buffer }
+    ensures { (kept : Kept) → IsReplyTo plain answer result kept }
 {
     match answer {
         Ok(()) => Reply::Done,
@@ -43,7 +46,7 @@ fn done(answer: Result<(), Refusal>) -> Reply<'static>
 }
 
 fn number(answer: Result<u64, Refusal>) -> Reply<'static>
-    ensures { (buffer : List ℕ) → IsReplyTo number_text answer result buffer }
+    ensures { (kept : Kept) → IsReplyTo number_text answer result kept }
 {
     match answer {
         Ok(number) => Reply::Number(number),
@@ -54,8 +57,8 @@ fn number(answer: Result<u64, Refusal>) -> Reply<'static>
 /// A read that put so many bytes to the front of the buffer.
 fn bytes(answer: Result<u64, Refusal>) -> Reply<'static>
     requires { IfOk answer (λ n. n ≤ MOST_BYTES) }
-    ensures { (buffer : List ℕ) → MOST_BYTES ≤ length buffer
-        → IsReplyTo read_text (as_read answer buffer) result buffer }
+    ensures { (kept : Kept) → MOST_BYTES ≤ length kept.bytes
+        → IsReplyTo read_text (as_read answer kept.bytes) result kept }
 {
     match answer {
         Ok(count) => Reply::Bytes(count as usize),
@@ -76,7 +79,7 @@ fn open<D: Zoned + Drop>(
     requires unspoilt { volume.old.device.spoilt ≡ false }
     requires few { volume.old.volume.handles.opened < 2 ^ 63 }
     requires numbered { IsNumbered (mounted_in volume.old) numbers.old.items }
-    ensures { (buffer : List ℕ) → Answers (OpenFile number path.now mode who) result buffer
+    ensures { (kept : Kept) → Answers (OpenFile number path.now mode who) result kept
         volume.old volume.new numbers.old.items numbers.new.items }
 {
     if handle_of(numbers, number).is_some() {
@@ -107,7 +110,7 @@ fn close<D: Zoned + Drop>(
     requires number { number ≤ LAST_NUMBER }
     requires unspoilt { volume.old.device.spoilt ≡ false }
     requires numbered { IsNumbered (mounted_in volume.old) numbers.old.items }
-    ensures { (buffer : List ℕ) → Answers (CloseFile number) result buffer
+    ensures { (kept : Kept) → Answers (CloseFile number) result kept
         volume.old volume.new numbers.old.items numbers.new.items }
 {
     let Some(h) = handle_of(numbers, number) else {
@@ -129,7 +132,7 @@ fn size<D: Zoned + Drop>(
     requires number { number ≤ LAST_NUMBER }
     requires unspoilt { volume.now.device.spoilt ≡ false }
     requires numbered { IsNumbered (mounted_in volume.now) numbers.now }
-    ensures { (buffer : List ℕ) → Answers (SizeOf number) result buffer
+    ensures { (kept : Kept) → Answers (SizeOf number) result kept
         volume.now volume.now numbers.now numbers.now }
 {
     match handle_of(numbers, number) {
@@ -196,8 +199,8 @@ fn read<D: Zoned + Drop>(
     requires room { length buffer.old.items ≡ MOST_BYTES }
     requires unspoilt { volume.old.device.spoilt ≡ false }
     requires numbered { IsNumbered (mounted_in volume.old) numbers.now }
-    ensures answers { Answers (ReadFrom number offset len) result buffer.new.items
-        volume.old volume.new numbers.now numbers.now }
+    ensures answers { (zones : List TheZoneTold) → Answers (ReadFrom number offset len) result
+        (kept_as buffer.new.items zones) volume.old volume.new numbers.now numbers.now }
     ensures room { length buffer.new.items ≡ MOST_BYTES }
 {
     match handle_of(numbers, number) {
@@ -231,8 +234,8 @@ fn write<D: Zoned + Drop>(
     requires room { length buffer.old.items ≡ MOST_BYTES }
     requires unspoilt { volume.old.device.spoilt ≡ false }
     requires numbered { IsNumbered (mounted_in volume.old) numbers.now }
-    ensures answers { Answers (WriteTo number offset (runs_meant word.now)) result buffer.new.items
-        volume.old volume.new numbers.now numbers.now }
+    ensures answers { (zones : List TheZoneTold) → Answers (WriteTo number offset (runs_meant word.now)) result
+        (kept_as buffer.new.items zones) volume.old volume.new numbers.now numbers.now }
     ensures room { length buffer.new.items ≡ MOST_BYTES }
 {
     match handle_of(numbers, number) {
@@ -254,7 +257,7 @@ fn truncate<D: Zoned + Drop>(
     requires number { number ≤ LAST_NUMBER }
     requires unspoilt { volume.old.device.spoilt ≡ false }
     requires numbered { IsNumbered (mounted_in volume.old) numbers.now }
-    ensures { (buffer : List ℕ) → Answers (TruncateTo number size) result buffer
+    ensures { (kept : Kept) → Answers (TruncateTo number size) result kept
         volume.old volume.new numbers.now numbers.now }
 {
     match handle_of(numbers, number) {
@@ -271,7 +274,7 @@ fn sync<D: Zoned + Drop>(
     requires number { number ≤ LAST_NUMBER }
     requires unspoilt { volume.old.device.spoilt ≡ false }
     requires numbered { IsNumbered (mounted_in volume.old) numbers.now }
-    ensures { (buffer : List ℕ) → Answers (SyncFile number) result buffer
+    ensures { (kept : Kept) → Answers (SyncFile number) result kept
         volume.old volume.new numbers.now numbers.now }
 {
     match handle_of(numbers, number) {
@@ -280,10 +283,28 @@ fn sync<D: Zoned + Drop>(
     }
 }
 
+/// A request through the handle of a number. Requests can't be queued yet.
+fn submit<D: Zoned + Drop>(
+    volume: &Volume<D>,
+    numbers: &[Option<Handle>],
+    number: u32,
+) -> Reply<'static>
+    requires number { number ≤ LAST_NUMBER }
+    requires unspoilt { volume.now.device.spoilt ≡ false }
+    requires numbered { IsNumbered (mounted_in volume.now) numbers.now }
+    ensures { (kept : Kept) (offset : ℕ) (runs : List Run) → Answers (SubmitTo number offset runs) result kept
+        volume.now volume.now numbers.now numbers.now }
+{
+    match handle_of(numbers, number) {
+        None => Reply::Refused(Refusal::BadHandle),
+        Some(_) => Reply::NotBuilt,
+    }
+}
+
 fn stat<'a, D: Zoned + Drop>(volume: &Volume<D>, path: &'a str) -> Reply<'a>
     requires unspoilt { volume.now.device.spoilt ≡ false }
-    ensures { (buffer : List ℕ) (numbers : List (Option Handle)) → IsNumbered (mounted_in volume.now) numbers
-        → Answers (StatOf path.now) result buffer volume.now volume.now numbers numbers }
+    ensures { (kept : Kept) (numbers : List (Option Handle)) → IsNumbered (mounted_in volume.now) numbers
+        → Answers (StatOf path.now) result kept volume.now volume.now numbers numbers }
 {
     match volume.stat(path) {
         Ok(stat) => Reply::Told(path, stat),
@@ -295,7 +316,7 @@ fn stat<'a, D: Zoned + Drop>(volume: &Volume<D>, path: &'a str) -> Reply<'a>
 fn listing<D: Zoned + Drop>(volume: &Volume<D>, path: &str, entries: u32) -> Reply<'static>
     requires { option_map length (listing_of volume.now.volume.inodes.layout path.now) ≡ Some entries }
     ensures { let names = listing_of volume.now.volume.inodes.layout path.now in
-        (buffer : List ℕ) → IsReplyTo (λ (n : ℕ). list_text (names_in names)) (Ok entries) result buffer }
+        (kept : Kept) → IsReplyTo (λ (n : ℕ). list_text (names_in names)) (Ok entries) result kept }
 {
     if path == "/" {
         let (cnv, seq) = volume.files();
@@ -307,8 +328,8 @@ fn listing<D: Zoned + Drop>(volume: &Volume<D>, path: &str, entries: u32) -> Rep
 
 fn list<D: Zoned + Drop>(volume: &Volume<D>, path: &str) -> Reply<'static>
     requires unspoilt { volume.now.device.spoilt ≡ false }
-    ensures { (buffer : List ℕ) (numbers : List (Option Handle)) → IsNumbered (mounted_in volume.now) numbers
-        → Answers (ListOf path.now) result buffer volume.now volume.now numbers numbers }
+    ensures { (kept : Kept) (numbers : List (Option Handle)) → IsNumbered (mounted_in volume.now) numbers
+        → Answers (ListOf path.now) result kept volume.now volume.now numbers numbers }
 {
     match volume.entries(path) {
         Ok(entries) => listing(volume, path, entries),
@@ -318,8 +339,8 @@ fn list<D: Zoned + Drop>(volume: &Volume<D>, path: &str) -> Reply<'static>
 
 fn attr<D: Zoned + Drop>(volume: &Volume<D>) -> Reply<'static>
     requires unspoilt { volume.now.device.spoilt ≡ false }
-    ensures { (buffer : List ℕ) (numbers : List (Option Handle)) → IsNumbered (mounted_in volume.now) numbers
-        → Answers Attributes result buffer volume.now volume.now numbers numbers }
+    ensures { (kept : Kept) (numbers : List (Option Handle)) → IsNumbered (mounted_in volume.now) numbers
+        → Answers Attributes result kept volume.now volume.now numbers numbers }
 {
     match volume.attr() {
         Ok(attr) => Reply::Attributes(attr),
@@ -329,8 +350,8 @@ fn attr<D: Zoned + Drop>(volume: &Volume<D>) -> Reply<'static>
 
 fn change<D: Zoned + Drop>(volume: &Volume<D>, change: Change) -> Reply<'static>
     requires unspoilt { volume.now.device.spoilt ≡ false }
-    ensures { (buffer : List ℕ) (numbers : List (Option Handle)) → IsNumbered (mounted_in volume.now) numbers
-        → Answers (Changes change) result buffer volume.now volume.now numbers numbers }
+    ensures { (kept : Kept) (numbers : List (Option Handle)) → IsNumbered (mounted_in volume.now) numbers
+        → Answers (Changes change) result kept volume.now volume.now numbers numbers }
 {
     Reply::Refused(volume.change())
 }
@@ -348,8 +369,8 @@ pub fn answer<'a, D: Zoned + Drop>(
     requires unspoilt { volume.old.device.spoilt ≡ false }
     requires few { volume.old.volume.handles.opened < 2 ^ 63 }
     requires numbered { IsNumbered (mounted_in volume.old) numbers.old.items }
-    ensures answers { Answers (line_meant line.now) result buffer.new.items
-        volume.old volume.new numbers.old.items numbers.new.items }
+    ensures answers { (zones : List TheZoneTold) → Answers (line_meant line.now) result
+        (kept_as buffer.new.items zones) volume.old volume.new numbers.old.items numbers.new.items }
     ensures room { length buffer.new.items ≡ MOST_BYTES }
 {
     match *line {
@@ -364,9 +385,12 @@ pub fn answer<'a, D: Zoned + Drop>(
         Line::List(path) => list(volume, path),
         Line::Attr => attr(volume),
         Line::Change(change) => self::change(volume, change),
+        Line::Submit(number, _, _) => submit(volume, numbers, number),
+        Line::Complete => Reply::NotBuilt,
+        Line::Reap => Reply::NotBuilt,
         // These are no calls.
-        Line::Mkfs(_) | Line::Mount(_) | Line::Umount | Line::Fault(..) | Line::Turn(..) => {
-            Reply::AlreadyMounted
-        }
+        Line::Mkfs(_) | Line::Mount(_) | Line::Umount => Reply::AlreadyMounted,
+        Line::Zones | Line::Fault(..) | Line::Turn(..) => Reply::AlreadyMounted,
+        Line::PowerLoss(..) | Line::PowerLossIn(..) | Line::PowerOn => Reply::AlreadyMounted,
     }
 }

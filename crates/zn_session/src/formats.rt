@@ -5,6 +5,7 @@ ghost use Rattle.zn_lines.specs.Session.{line_now, label_in, uuid_in, features_i
 ghost use Rattle.zn_lines.specs.Table.{no_numbers};
 ghost use Rattle.zn_script.specs.Items.{IsShort, format_meant};
 ghost use Rattle.zn_session.specs.SessionState.{bare_held, held_by, AreNumbered};
+ghost use Rattle.zn_session.specs.Replies.{Kept};
 ghost use Rattle.zn_session.specs.Steps.{Means};
 
 use crate::held::Held;
@@ -65,8 +66,8 @@ fn format_bare<D: Zoned>(
 ) -> Reply<'static>
     requires short { IsShort words.now.features }
     requires unspoilt { (D.state dev.old).spoilt ≡ false }
-    ensures { (buffer : List ℕ) (numbers : List (Option Handle)) → numbers ≡ no_numbers
-        → Means line_now (Mkfs (format_meant words.now)) result buffer entropy.now
+    ensures { (kept : Kept) (numbers : List (Option Handle)) → numbers ≡ no_numbers
+        → Means line_now (Mkfs (format_meant words.now)) result kept entropy.now
         (bare_held (D.state dev.old)) (bare_held (D.state dev.new)) numbers numbers }
 {
     let Some(label) = label_in(words.label) else {
@@ -95,9 +96,9 @@ pub fn mkfs<D: Zoned + Drop>(
     requires short { IsShort words.now.features }
     requires there { IsSome held.old }
     requires unspoilt { (held_by D.state held.old).device.spoilt ≡ false }
-    ensures means { (buffer : List ℕ) (numbers : List (Option Handle))
+    ensures means { (kept : Kept) (numbers : List (Option Handle))
         → AreNumbered (held_by D.state held.old) numbers
-        → Means line_now (Mkfs (format_meant words.now)) result buffer entropy.now
+        → Means line_now (Mkfs (format_meant words.now)) result kept entropy.now
         (held_by D.state held.old) (held_by D.state held.new) numbers numbers }
     ensures there { IsSome held.new }
 {

@@ -6,6 +6,7 @@ ghost use Rattle.zn_lines.specs.Session.{line_now, options_in};
 ghost use Rattle.zn_lines.specs.Table.{no_numbers};
 ghost use Rattle.zn_script.specs.Items.{IsShort};
 ghost use Rattle.zn_session.specs.SessionState.{bare_held, held_by, AreNumbered};
+ghost use Rattle.zn_session.specs.Replies.{Kept};
 ghost use Rattle.zn_session.specs.Steps.{Means, Dropped};
 
 use crate::replies::Reply;
@@ -96,8 +97,8 @@ fn mount_bare<D: Zoned + Drop>(
 ) -> (Held<D>, Reply<'static>)
     requires short { IsShort text }
     requires unspoilt { (D.state dev).spoilt ≡ false }
-    ensures { (buffer entropy : List ℕ) (numbers : List (Option Handle)) → numbers ≡ no_numbers
-        → Means line_now (Mount (option_copied text.entry)) result.1 buffer entropy
+    ensures { (kept : Kept) (entropy : List ℕ) (numbers : List (Option Handle)) → numbers ≡ no_numbers
+        → Means line_now (Mount (option_copied text.entry)) result.1 kept entropy
         (bare_held (D.state dev)) (held_by D.state (Some result.0)) numbers numbers }
 {
     let opts = match options_in(text) {
@@ -119,9 +120,9 @@ pub fn mount<D: Zoned + Drop>(
     requires short { IsShort text }
     requires there { IsSome held.old }
     requires unspoilt { (held_by D.state held.old).device.spoilt ≡ false }
-    ensures means { (buffer entropy : List ℕ) (numbers : List (Option Handle))
+    ensures means { (kept : Kept) (entropy : List ℕ) (numbers : List (Option Handle))
         → AreNumbered (held_by D.state held.old) numbers
-        → Means line_now (Mount (option_copied text.entry)) result buffer entropy
+        → Means line_now (Mount (option_copied text.entry)) result kept entropy
         (held_by D.state held.old) (held_by D.state held.new) numbers numbers }
     ensures there { IsSome held.new }
 {
@@ -147,7 +148,7 @@ pub fn umount<D: Zoned + Drop>(
     requires there { IsSome held.old }
     requires unspoilt { (held_by D.state held.old).device.spoilt ≡ false }
     requires numbered { AreNumbered (held_by D.state held.old) numbers.old.items }
-    ensures means { (buffer entropy : List ℕ) → Means line_now Umount result buffer entropy
+    ensures means { (kept : Kept) (entropy : List ℕ) → Means line_now Umount result kept entropy
         (held_by D.state held.old) (held_by D.state held.new) numbers.old.items numbers.new.items }
     ensures there { IsSome held.new }
 {

@@ -6,6 +6,8 @@ mod formats;
 mod held;
 mod injecting;
 mod replies;
+mod reporting;
+mod room;
 mod session;
 
 pub use session::{Session, SessionFail};

@@ -1,5 +1,5 @@
 // Replies, as texts.
-ghost use Rattle.std.specs.Prelude.{◌≡◌, ◌≤◌, ◌+◌, ◌++◌, ◌%◌, length};
+ghost use Rattle.std.specs.Prelude.{◌≡◌, ◌≤◌, ◌<◌, ◌^◌, ◌+◌, ◌++◌, ◌%◌, length};
 ghost use Rattle.zn_base.specs.States.{Writes};
 ghost use Rattle.zn_base.specs.Texts.{◌⧺◌};
 ghost use Rattle.zn_model.specs.declared.answers.FormatError.TheVariants.{BadZone0};
@@ -10,11 +10,13 @@ ghost use Rattle.zn_lines.specs.ReplyTexts.{file_text, directory_text, octal_tex
 ghost use Rattle.std.specs.Fmt.{decimal};
 ghost use Rattle.zn_model.specs.declared.limits.TheConstants.{MOST_BYTES};
 ghost use Rattle.zn_model.specs.ZoneFiles.{names_to};
-ghost use Rattle.zn_session.specs.Replies.{text_of, front_text, IsWritable, directory_names};
+ghost use Rattle.zn_session.specs.Replies.{kept_in, text_of, front_text, told_line, told_zones, IsWritable, directory_names};
 
+use crate::room::{Room, ZoneTold};
 use zn_base::{Part, Sink, WriteFault, write_all, write_parts, write_runs};
 use zn_model::{Attr, FormatError, MountError, OptError, Refusal, Stat, Why};
-use zn_truth::{Cond, InjectError};
+use zn_report::zone_line;
+use zn_truth::{Cond, InjectError, ZoneNo};
 
 /// What a line is answered.
 #[derive(Clone, Copy)]
@@ -29,17 +31,19 @@ pub enum Reply<'a> {
     BadLabel,
     /// The identifier of a format is none.
     BadUuid,
+    /// What the line asks for can't be carried out yet.
+    NotBuilt,
     /// A call on the volume was refused.
     Refused(Refusal),
     /// The options of a format or of a mount are faulty.
     OptionRefused(OptError),
     FormatRefused(FormatError),
     MountRefused(MountError),
-    /// A fault, or a turn of a zone, was refused.
+    /// A fault, a turn of a zone or a loss of power was refused.
     InjectRefused(InjectError),
     Done,
     Number(u64),
-    /// So many bytes at the front of the session's buffer.
+    /// So many bytes at the front of those that the session keeps.
     Bytes(usize),
     /// What is told of the file or directory of a path.
     Told(&'a str, Stat),
@@ -48,6 +52,8 @@ pub enum Reply<'a> {
     /// The names of so many files: `0`, `1` and so on.
     Names(u32),
     Attributes(Attr),
+    /// What the session keeps of the zones of a report.
+    Zones,
 }
 
 /// The name of a refusal.
@@ -82,7 +88,7 @@ fn refusal_text(refusal: Refusal) -> &'static [u8]
     }
 }
 
-/// The name of what refuses a fault, or a turn of a zone.
+/// The name of what refuses a fault, a turn of a zone or a loss of power.
 fn inject_error_text(error: InjectError) -> &'static [u8]
     ensures { result.now ≡ inject_error_name error }
 {
@@ -367,14 +373,40 @@ fn write_attr<K: Sink>(sink: &mut K, attr: &Attr) -> Result<(), WriteFault>
     )
 }
 
-/// Writes the text of a reply. The buffer has the bytes of a read.
-pub fn write_reply<K: Sink>(
-    sink: &mut K,
-    reply: &Reply<'_>,
-    buffer: &[u8],
-) -> Result<(), WriteFault>
-    requires { IsWritable reply.now buffer.now }
-    ensures { Writes result (text_of reply.now buffer.now) (K.state sink.old) (K.state sink.new) }
+/// Writes the line of a zone, with its number.
+fn write_zone<K: Sink>(sink: &mut K, z: u32, zone: &ZoneTold) -> Result<(), WriteFault>
+    ensures { Writes result (told_line (z, zone.now)) (K.state sink.old) (K.state sink.new) }
+{
+    zone_line(
+        ZoneNo(z),
+        zone.kind,
+        &zone.info,
+        zone.room,
+        zone.place,
+        sink,
+    )
+}
+
+/// Writes the zones of a report, each on a line, behind their number.
+fn write_zones<K: Sink>(sink: &mut K, zones: &[ZoneTold]) -> Result<(), WriteFault>
+    requires { length zones.now < 2 ^ 32 }
+    ensures { Writes result (told_zones zones.now) (K.state sink.old) (K.state sink.new) }
+{
+    if let Err(fault) = write_count(sink, zones.len() as u64) {
+        return Err(fault);
+    }
+    for (z, zone) in zones.iter().enumerate() {
+        if let Err(fault) = write_zone(sink, z as u32, zone) {
+            return Err(fault);
+        }
+    }
+    Ok(())
+}
+
+/// Writes the text of a reply. The room has the bytes of a read, and the zones of a report.
+pub fn write_reply<K: Sink>(sink: &mut K, reply: &Reply<'_>, room: &Room) -> Result<(), WriteFault>
+    requires { IsWritable reply.now (kept_in room.now) }
+    ensures { Writes result (text_of reply.now (kept_in room.now)) (K.state sink.old) (K.state sink.new) }
 {
     match reply {
         Reply::NotMounted => write_error(sink, b"not-mounted"),
@@ -382,6 +414,7 @@ pub fn write_reply<K: Sink>(
         Reply::HandleInUse => write_error(sink, b"handle-in-use"),
         Reply::BadLabel => write_error(sink, b"bad-label"),
         Reply::BadUuid => write_error(sink, b"bad-uuid"),
+        Reply::NotBuilt => write_error(sink, b"not-built"),
         Reply::Refused(refusal) => write_error(sink, refusal_text(*refusal)),
         Reply::OptionRefused(error) => write_option_error(sink, error),
         Reply::FormatRefused(error) => write_format_error(sink, error),
@@ -389,10 +422,11 @@ pub fn write_reply<K: Sink>(
         Reply::InjectRefused(error) => write_error(sink, inject_error_text(*error)),
         Reply::Done => write_all(sink, b"ok\n"),
         Reply::Number(number) => write_count(sink, *number),
-        Reply::Bytes(count) => write_bytes(sink, &buffer[..*count]),
+        Reply::Bytes(count) => write_bytes(sink, &room.bytes[..*count]),
         Reply::Told(path, stat) => write_stat(sink, path.as_bytes(), stat),
         Reply::Directories(cnv, seq) => write_directories(sink, *cnv, *seq),
         Reply::Names(count) => write_names(sink, *count),
         Reply::Attributes(attr) => write_attr(sink, attr),
+        Reply::Zones => write_zones(sink, &room.zones),
     }
 }

@@ -5,23 +5,27 @@ ghost use Rattle.zn_lines.specs.Table.{no_numbers};
 ghost use Rattle.zn_model.specs.declared.limits.TheConstants.{MOST_BYTES};
 ghost use Rattle.zn_run.specs.States.{state_of};
 ghost use Rattle.zn_run.specs.Steps.{Stepped};
+ghost use Rattle.zn_truth.specs.World.{geometry_of};
 ghost use Rattle.zn_script.specs.Data.{CallFits};
 ghost use Rattle.zn_script.specs.Meant.{line_meant};
-ghost use Rattle.zn_session.specs.Replies.{text_of, IsWritable};
-ghost use Rattle.zn_session.specs.SessionState.{held_by, begun, machine_of, AreNumbered, opened_on};
+ghost use Rattle.zn_session.specs.Replies.{kept_as, kept_in, text_of, IsWritable};
+ghost use Rattle.zn_session.specs.declared.room.ZoneTold.{ZoneTold as TheZoneTold};
+ghost use Rattle.zn_session.specs.SessionState.{held_by, begun, machine_of, zones_in, AreNumbered, HasRoom, opened_on};
 ghost use Rattle.zn_session.specs.Steps.{IsCall, Means, Performed, ends, is_starved, ended_by, told_by, stops, Said};
 
 use crate::calls;
 use crate::formats::mkfs;
 use crate::held::{Held, breaks, device, drop_unpowered, into_device, mount, umount};
-use crate::injecting::{fault, turn};
+use crate::injecting::{fault, power_loss, power_loss_in, power_on, turn};
 use crate::replies::{Reply, write_reply};
+use crate::reporting::zones;
+use crate::room::{Room, take_room};
 use std::alloc::{AllocError, Global};
 use std::marker::Model;
 use zn_base::Sink;
 use zn_device::{Injects, Zoned};
 use zn_lines::MAX_NUMBERS;
-use zn_model::{FormatError, Handle, MOST_BYTES, MountError, Refusal};
+use zn_model::{FormatError, Handle, MountError, Refusal};
 use zn_run::{Machine, Step};
 use zn_script::{Line, parse};
 use zn_truth::InjectError;
@@ -35,8 +39,8 @@ pub struct Session<D: Injects + Drop> {
     held: Option<Held<D>>,
     /// The handle of each number.
     numbers: Vec<Option<Handle>>,
-    /// Room for the bytes of a call.
-    buffer: Vec<u8>,
+    /// Room for the bytes of a call, and for a report of all zones.
+    room: Room,
     /// What a format without an identifier makes one of.
     entropy: [u8; 16],
     /// Whether no further line may come.
@@ -55,7 +59,7 @@ impl<D: Injects + Drop> Model for Session<D> {
 
     ghost invariant = { λ s.
         IsSession (session_of (held_by D.state s.held) s.numbers.items s.entropy s.is_over s.steps)
-        (is_some s.held) (length s.buffer.items) };
+        (is_some s.held) s.room };
 }
 
 /// A device for which there was no memory to begin a session, as it was.
@@ -75,14 +79,17 @@ fn no_handles(alloc: Global) -> Result<Vec<Option<Handle>>, AllocError>
     Ok(numbers)
 }
 
-/// All the memory that a session keeps: the handles of its numbers, and room for the bytes of a call.
-fn take_room(alloc: Global) -> Result<(Vec<Option<Handle>>, Vec<u8>), AllocError>
-    ensures numbers { IfOk result (λ room. room.0.items ≡ no_numbers) }
-    ensures buffer { IfOk result (λ room. length room.1.items ≡ MOST_BYTES) }
+/// All the memory that a session keeps: the handles of its numbers, and room for its calls and reports.
+fn take_parts<D: Zoned>(
+    alloc: Global,
+    dev: &D,
+) -> Result<(Vec<Option<Handle>>, Room), AllocError>
+    ensures numbers { IfOk result (λ parts. parts.0.items ≡ no_numbers) }
+    ensures room { IfOk result (λ parts. HasRoom (length (geometry_of (D.state dev.now).world).kinds) parts.1) }
 {
     let numbers = no_handles(alloc)?;
-    let buffer = vec![in alloc; 0; MOST_BYTES as usize]?;
-    Ok((numbers, buffer))
+    let room = take_room(alloc, dev)?;
+    Ok((numbers, room))
 }
 
 /// Whether a reply ends the run.
@@ -130,11 +137,11 @@ fn stops(step: Step) -> bool
 }
 
 /// Writes the text of a reply.
-fn say<K: Sink>(sink: &mut K, reply: &Reply<'_>, buffer: &[u8]) -> Step
-    requires { IsWritable reply.now buffer.now }
-    ensures { Said result (text_of reply.now buffer.now) (K.state sink.old) (K.state sink.new) }
+fn say<K: Sink>(sink: &mut K, reply: &Reply<'_>, room: &Room) -> Step
+    requires { IsWritable reply.now (kept_in room.now) }
+    ensures { Said result (text_of reply.now (kept_in room.now)) (K.state sink.old) (K.state sink.new) }
 {
-    match write_reply(sink, reply, buffer) {
+    match write_reply(sink, reply, room) {
         Ok(()) => Step::Done,
         Err(_) => Step::SinkFault,
     }
@@ -154,7 +161,8 @@ fn call<'a, D: Zoned + Drop>(
     requires unspoilt { (held_by D.state held.old).device.spoilt ≡ false }
     requires few { opened_on (held_by D.state held.old).volume < 2 ^ 63 }
     requires numbered { AreNumbered (held_by D.state held.old) numbers.old.items }
-    ensures means { (entropy : List ℕ) → Means line_now (line_meant line.now) result buffer.new.items entropy
+    ensures means { (zones : List TheZoneTold) (entropy : List ℕ) → Means line_now (line_meant line.now) result
+        (kept_as buffer.new.items zones) entropy
         (held_by D.state held.old) (held_by D.state held.new) numbers.old.items numbers.new.items }
     ensures room { length buffer.new.items ≡ MOST_BYTES }
     ensures there { IsSome held.new }
@@ -171,19 +179,19 @@ fn answer<'a, D: Injects + Drop>(
     alloc: Global,
     held: &mut Option<Held<D>>,
     numbers: &mut Vec<Option<Handle>>,
-    buffer: &mut Vec<u8>,
+    room: &mut Room,
     entropy: &[u8; 16],
     line: &Line<'a>,
 ) -> Reply<'a>
     requires fits { CallFits line.now }
-    requires room { length buffer.old.items ≡ MOST_BYTES }
+    requires room { HasRoom (zones_in (held_by D.state held.old)) room.old }
     requires there { IsSome held.old }
     requires unspoilt { (held_by D.state held.old).device.spoilt ≡ false }
     requires few { opened_on (held_by D.state held.old).volume < 2 ^ 63 }
     requires numbered { AreNumbered (held_by D.state held.old) numbers.old.items }
-    ensures means { Means line_now (line_meant line.now) result buffer.new.items entropy.now
+    ensures means { Means line_now (line_meant line.now) result (kept_in room.new) entropy.now
         (held_by D.state held.old) (held_by D.state held.new) numbers.old.items numbers.new.items }
-    ensures room { length buffer.new.items ≡ MOST_BYTES }
+    ensures room { HasRoom (zones_in (held_by D.state held.old)) room.new }
     ensures there { IsSome held.new }
 {
     match line {
@@ -192,7 +200,13 @@ fn answer<'a, D: Injects + Drop>(
         Line::Umount => umount(held, numbers),
         Line::Fault(zone, command, keep) => fault(held, *zone, *command, *keep),
         Line::Turn(zone, to) => turn(held, *zone, *to),
-        _ => call(held, numbers, buffer, line),
+        Line::Zones => zones(held, room),
+        Line::PowerLoss(fill, words) => power_loss(held, *fill, words),
+        Line::PowerLossIn(zone, command, done, fill, words) => {
+            power_loss_in(held, *zone, *command, *done, *fill, words)
+        }
+        Line::PowerOn => power_on(held),
+        _ => call(held, numbers, &mut room.bytes, line),
     }
 }
 
@@ -201,22 +215,22 @@ fn carry_out<'a, D: Injects + Drop>(
     alloc: Global,
     held: &mut Option<Held<D>>,
     numbers: &mut Vec<Option<Handle>>,
-    buffer: &mut Vec<u8>,
+    room: &mut Room,
     entropy: &[u8; 16],
     line: &Line<'a>,
 ) -> Reply<'a>
     requires fits { CallFits line.now }
-    requires room { length buffer.old.items ≡ MOST_BYTES }
+    requires room { HasRoom (zones_in (held_by D.state held.old)) room.old }
     requires there { IsSome held.old }
     requires unspoilt { (held_by D.state held.old).device.spoilt ≡ false }
     requires few { opened_on (held_by D.state held.old).volume < 2 ^ 63 }
     requires numbered { AreNumbered (held_by D.state held.old) numbers.old.items }
-    ensures means { Means line_step (line_meant line.now) result buffer.new.items entropy.now
+    ensures means { Means line_step (line_meant line.now) result (kept_in room.new) entropy.now
         (held_by D.state held.old) (held_by D.state held.new) numbers.old.items numbers.new.items }
-    ensures room { length buffer.new.items ≡ MOST_BYTES }
+    ensures room { HasRoom (zones_in (held_by D.state held.old)) room.new }
     ensures there { IsSome held.new }
 {
-    let reply = answer(alloc, held, numbers, buffer, entropy, line);
+    let reply = answer(alloc, held, numbers, room, entropy, line);
     if !ends(&reply) {
         drop_unpowered(held, numbers);
     }
@@ -230,14 +244,14 @@ impl<D: Injects + Drop> Session<D> {
         ensures begun { IfOk result (λ s. s ≡ begun (D.state dev) entropy) }
         ensures failed { IfErr result (λ fail. D.state fail.dev ≡ D.state dev) }
     {
-        let Ok((numbers, buffer)) = take_room(alloc) else {
+        let Ok((numbers, room)) = take_parts(alloc, &dev) else {
             return Err(SessionFail { dev });
         };
         Ok(Session {
             alloc,
             held: Some(Held::Bare(dev)),
             numbers,
-            buffer,
+            room,
             entropy,
             is_over: false,
             steps: 0,
@@ -272,7 +286,7 @@ impl<D: Injects + Drop> Session<D> {
             self.alloc,
             &mut self.held,
             &mut self.numbers,
-            &mut self.buffer,
+            &mut self.room,
             &self.entropy,
             line,
         );
@@ -294,7 +308,7 @@ impl<D: Injects + Drop> Session<D> {
             self.alloc,
             &mut self.held,
             &mut self.numbers,
-            &mut self.buffer,
+            &mut self.room,
             &self.entropy,
             line,
         );
@@ -302,7 +316,7 @@ impl<D: Injects + Drop> Session<D> {
             self.is_over = true;
             return ending(breaks(&self.held) != before, &reply);
         }
-        let step = say(sink, &reply, &self.buffer);
+        let step = say(sink, &reply, &self.room);
         self.is_over = stops(step);
         step
     }

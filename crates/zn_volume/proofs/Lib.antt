@@ -22,3 +22,6 @@ pub mod Unstruck
 pub mod Untroubled
 pub mod Passing
 pub mod Answering
+pub mod Powering
+pub mod Reports
+pub mod TellingPower

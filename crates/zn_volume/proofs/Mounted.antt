@@ -138,6 +138,7 @@ mounted_is opts super_block old new inodes handles unspoilt h is fresh =
       fresh = sym (volume_is old.world.truth super_block opts inodes handles is fresh);
       formatted = found.is;
       powered = done_powered (report_all old.world.truth) _ old new done;
+      geometry = done.obeys.geometry;
     }
 
 -- ---- handles after a mount

@@ -9,3 +9,5 @@ pub mod Refusals
 pub mod IoErrors
 pub mod RecoveryLaws
 pub mod Untroubled
+pub mod Reports
+pub mod PowerLaws

@@ -18,8 +18,8 @@ abbrev pub IsZone0Offline : Truth → Type 0
 IsZone0Offline t = is_offline (zone_at t 0).cond ≡ true
 
 -- A mount that is done, where the read of the super block gave these bytes: the volume and the world are the mount's
--- answer, and all else of the device stays. The volume is a fresh one, its super block is the device's, and the power
--- is on.
+-- answer, and all else of the device stays. The volume is a fresh one, its super block is the device's, the power is
+-- on, and the geometry stays.
 pub record IsMounted (opts : MountOpts) (old : DeviceState) (new : VolumeState) : Type 0 where
   pub given : List ℕ
   pub bytes : All (λ byte. byte < 256) given
@@ -28,6 +28,7 @@ pub record IsMounted (opts : MountOpts) (old : DeviceState) (new : VolumeState) 
   pub fresh : new.volume ≡ fresh_volume old.world.truth new.volume.super_block opts
   pub formatted : found_in given old.world.truth ≡ Ok new.volume.super_block
   pub powered : new.device.world.powered ≡ true
+  pub geometry : geometry_of new.device.world ≡ geometry_of old.world
 
 -- A mount that fails is the definition's answer, unless the device is spoilt, or memory was wanting: then that was
 -- before the first command, and the device is as it was. A device that isn't formatted stays as it was. `io-error`

@@ -51,6 +51,16 @@ fn why(error: SuperError) -> Why
 // ---- the super block
 
 /// A report of all zones.
+pub(crate) fn report_zones<D: Zoned>(dev: &mut D, infos: &mut [ZoneInfo]) -> Result<(), DevError>
+    requires places { length infos.old ≡ length (geometry_of (D.state dev.old).world).kinds }
+    requires unspoilt { (D.state dev.old).spoilt ≡ false }
+    ensures done { Commanded (whole_report (D.state dev.old).world.truth) result (D.state dev.old) (D.state dev.new) }
+    ensures infos { IsOk result → infos.new ≡ all_infos (D.state dev.old).world.truth }
+{
+    dev.report(ZoneNo(0), infos)
+}
+
+/// The same, into places that were taken once.
 fn report_all<D: Zoned>(dev: &mut D, infos: &mut Vec<ZoneInfo>) -> Result<(), DevError>
     requires places { length infos.old.items ≡ length (geometry_of (D.state dev.old).world).kinds }
     requires unspoilt { (D.state dev.old).spoilt ≡ false }
@@ -58,7 +68,7 @@ fn report_all<D: Zoned>(dev: &mut D, infos: &mut Vec<ZoneInfo>) -> Result<(), De
     ensures infos { IsOk result → infos.new.items ≡ all_infos (D.state dev.old).world.truth }
     ensures places { length infos.new.items ≡ length infos.old.items }
 {
-    dev.report(ZoneNo(0), infos)
+    report_zones(dev, infos)
 }
 
 /// Whether the super block's zone is sequential and not full, by a report of all zones.

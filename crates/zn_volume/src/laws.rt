@@ -1,6 +1,7 @@
-// Laws of failed commands, and of calls that nothing stands against, each the contract of a function that does
-// nothing but look at a volume.
+// Laws of failed commands, of losses of power, and of calls that nothing stands against, each the contract of a
+// function that does nothing but look at a volume.
 ghost use Rattle.zn_volume.specs.RecoveryLaws.{HandlesAlike, RecoveryOfAnswered, ReportLeaves, FaultLeaves, RefusalLeaves};
+ghost use Rattle.zn_volume.specs.PowerLaws.{LossIsToldByCalls};
 ghost use Rattle.zn_volume.specs.Untroubled.{LiesOnDevice, ReadAnswers, WriteAnswers, TruncateAnswers, SyncAnswers, OpenAnswers, CloseAnswers};
 ghost use Rattle.zn_volume.specs.VolumeState.{mounted_in};
 
@@ -30,6 +31,11 @@ pub fn fault_leaves()
 /// What a device holds after a command that it refused.
 pub fn refusal_leaves()
     ensures { RefusalLeaves }
+{}
+
+/// Where a call tells that the power is lost: exactly where it is off as the call ends.
+pub fn loss_is_told_by_calls()
+    ensures { LossIsToldByCalls }
 {}
 
 /// What a volume keeps to.

@@ -10,6 +10,7 @@ mod opening;
 mod paths;
 mod prepared;
 mod reading;
+mod reporting;
 #[cfg(test)]
 mod tests;
 mod truncating;
@@ -18,5 +19,6 @@ mod volume;
 mod writing;
 
 pub use mounting::MountFail;
+pub use reporting::report;
 pub use unmounting::UnmountFail;
 pub use volume::Volume;

@@ -1,19 +1,27 @@
 // Calls that look, and the changes that are never allowed.
-ghost use Rattle.std.specs.Prelude.{◌≡◌, ◌<◌, ◌≤◌, length, false, option_map, All, AllPairs};
+ghost use Rattle.std.specs.Prelude.{◌≡◌, ◌<◌, ◌≤◌, length, false, option_map, All, AllPairs, IsOk, IsErrOf};
+ghost use Rattle.zn_base.specs.Causes.{Rose};
+ghost use Rattle.zn_truth.specs.World.{geometry_of};
 ghost use Rattle.zn_model.specs.declared.limits.TheConstants.{MAX_HANDLES};
+ghost use Rattle.zn_model.specs.declared.answers.Refusal.TheVariants.{IoError};
 ghost use Rattle.zn_model.specs.ZoneFiles.{files_of, listing_of};
 ghost use Rattle.zn_model.specs.Looks.{stat_call, entries_call, attr_call, is_shown_active as is_counted_active, shown_active as count_of_active, file_stat, directory_stat, mode_of as shown_mode, change_refusal};
+ghost use Rattle.zn_model.specs.Looks.{all_infos, report_call, place_in};
 ghost use Rattle.zn_model.specs.Access.{unwritable as without_write};
 ghost use Rattle.zn_model.specs.Volume.{file_at, shown_at};
 ghost use Rattle.zn_volume.specs.Refusals.{IsRefusedBy, stat_refusal, entries_refusal, attr_refusal};
+ghost use Rattle.zn_volume.specs.Causes.{CallCause};
 ghost use Rattle.zn_volume.specs.Means.{spoils};
+ghost use Rattle.zn_volume.specs.Reports.{as_reported, report_refusal};
 ghost use Rattle.zn_volume.specs.VolumeState.{mounted_in};
 
 use crate::paths::entries_of_path;
+use crate::reporting::report;
 use crate::volume::Volume;
 use zn_device::Zoned;
 use zn_inode::room;
-use zn_model::{Attr, Refusal, Shown, Stat};
+use zn_model::{Attr, Place, Refusal, Shown, Stat};
+use zn_truth::{ZoneInfo, ZoneNo};
 
 /// An octal digit without the right to write.
 fn unwritable(digit: u32) -> u32
@@ -148,6 +156,36 @@ impl<D: Zoned + Drop> Volume<D> {
             }
         }
         active
+    }
+
+    /// Tells what each zone is, by one report of all zones. It takes no memory, and no recovery follows its failure. Where
+    /// it is refused, nothing is said of `out`.
+    ///
+    /// Refused as `PowerLost` without power. A failed command is told as `IoError`, `PowerLost`, `Broken` or `Memory`.
+    #[tactic(auto, using(crate::proofs::Causing::still_caused))]
+    pub fn report(&mut self, out: &mut [ZoneInfo]) -> Result<(), Refusal>
+        requires places { length out.old ≡ length (geometry_of self.old.device.world).kinds }
+        requires unspoilt { self.old.device.spoilt ≡ false }
+        ensures reply { self.new.device.spoilt ≡ false →
+            as_reported result out.new ≡ (report_call (mounted_in self.old)).reply }
+        ensures mounted { self.new.device.spoilt ≡ false →
+            mounted_in self.new ≡ (report_call (mounted_in self.old)).mounted }
+        ensures infos { IsOk result → out.new ≡ all_infos self.old.device.world.truth }
+        ensures refused { IsRefusedBy (report_refusal (mounted_in self.old)) result }
+        ensures io_error { IsErrOf result IoError → Rose self.old.device.faults self.new.device.faults }
+        ensures cause { CallCause result self.old.device self.new.device }
+    {
+        if !self.dev.powered() {
+            return Err(Refusal::PowerLost);
+        }
+        report(&mut self.dev, out)
+    }
+
+    /// Where a zone is shown: zone 0 in the super block's place, each other zone in the file that has it.
+    pub fn place(&self, z: ZoneNo) -> Place
+        ensures { result ≡ place_in self.now.volume z.0 }
+    {
+        self.inodes.place(z)
     }
 
     /// How many files `cnv` has, and how many `seq`.

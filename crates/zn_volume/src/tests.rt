@@ -8,9 +8,9 @@ use std::alloc::Global;
 use std::process::Abort;
 use std::test::Fail;
 use zn_device::{MemDevice, Zoned};
-use zn_model::{Mode, MountError, MountOpts, Policy, Refusal, Who, Why};
+use zn_model::{Mode, MountError, MountOpts, Place, Policy, Refusal, Who, Why};
 use zn_super::{Label, Super};
-use zn_truth::{DevError, Kind, Shape, ZoneNo};
+use zn_truth::{Cond, DevError, Kind, Shape, ZoneInfo, ZoneNo};
 
 mod zones;
 
@@ -183,6 +183,43 @@ fn conventional_zones_are_one_file(rt: HostRuntime) -> Result<(), Fail> {
         assert!(rt; is_told(&reply));
         assert_eq!(rt; reply, Ok(6));
         assert_eq!(rt; out, want);
+    }
+    Ok(())
+}
+
+// Zone 1 and 2 are one file, and zone 4 another.
+#[test]
+fn zones_are_placed_and_reported(rt: HostRuntime) -> Result<(), Fail> {
+    let kinds = [
+        Kind::Conventional,
+        Kind::Conventional,
+        Kind::Conventional,
+        Kind::Sequential,
+        Kind::Conventional,
+    ];
+    let mut dev = device(rt.alloc(), &kinds)?;
+    assert_eq!(rt; put(&mut dev, &copies(&rt, true)), Ok(()));
+    let mut volume = mounted(&rt, rt.alloc(), dev);
+    let want = [
+        Place::Super,
+        Place::Cnv(0),
+        Place::Cnv(0),
+        Place::Seq(0),
+        Place::Cnv(1),
+    ];
+    for (z, place) in (0..).zip(want) {
+        assert_eq!(rt; volume.place(ZoneNo(z)), place);
+    }
+    let mut infos = [ZoneInfo {
+        cond: Cond::Offline,
+        held: 9,
+        explicit: true,
+    }; 5];
+    assert!(rt; volume.device().zones() == 5);
+    assert_eq!(rt; volume.report(&mut infos), Ok(()));
+    for (z, info) in infos.iter().enumerate() {
+        let held = if z == 3 { 0 } else { 2 };
+        assert_eq!(rt; (info.cond, info.held, info.explicit), (Cond::Good, held, false));
     }
     Ok(())
 }

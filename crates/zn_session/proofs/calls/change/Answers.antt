@@ -8,6 +8,6 @@ use Rattle.zn_session.proofs.LineSteps.{change_step}
 use Rattle.zn_session.proofs.calls.change.Goals as goal
 
 pub returns : goal.returns
-returns g c = λ buffer numbers numbered.
-    subst (λ (refusal : Refusal). Answers (Changes c.args.change) (Refused refusal) buffer c.args.volume.now c.args.volume.now numbers numbers) (sym c.change.ensures)
+returns g c = λ kept numbers numbered.
+    subst (λ (refusal : Refusal). Answers (Changes c.args.change) (Refused refusal) kept c.args.volume.now c.args.volume.now numbers numbers) (sym c.change.ensures)
     (still tt (change_step _ _ numbers _) refl numbered c.requires.unspoilt)

@@ -11,11 +11,11 @@ pub listing-requires : goal.listing-requires
 listing-requires g c = entries_found (mounted_in c.args.volume.now) c.args.path.now c.in-Ok.entries (sym c.in-Ok.ensures.reply)
 
 pub returns-in-Ok : goal.returns-in-Ok
-returns-in-Ok g c = λ buffer numbers numbered.
+returns-in-Ok g c = λ kept numbers numbered.
     tells_look (entries_call (mounted_in c.args.volume.now) c.args.path.now) (list_step _ _ numbers _) c.in-Ok.ensures.reply (entries_same _ _)
-    c.in-Ok.ensures.told c.requires.unspoilt (entries_keeps _ _) numbered (c.listing.ensures buffer)
+    c.in-Ok.ensures.told c.requires.unspoilt (entries_keeps _ _) numbered (c.listing.ensures kept)
 
 pub returns-in-Err : goal.returns-in-Err
-returns-in-Err g c = λ buffer numbers numbered.
+returns-in-Err g c = λ kept numbers numbered.
     tells_look (entries_call (mounted_in c.args.volume.now) c.args.path.now) (list_step _ _ numbers _) c.in-Err.ensures.reply (entries_same _ _)
-    c.in-Err.ensures.told c.requires.unspoilt (entries_keeps _ _) numbered (tells_refused c.in-Err.refusal buffer)
+    c.in-Err.ensures.told c.requires.unspoilt (entries_keeps _ _) numbered (tells_refused c.in-Err.refusal kept)

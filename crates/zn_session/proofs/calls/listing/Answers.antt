@@ -11,7 +11,7 @@ use Rattle.zn_session.proofs.calls.listing.Goals as goal
 
 -- the text of the names that are listed
 pub returns-then-eq : goal.returns-then-eq
-returns-then-eq g c = λ buffer.
+returns-then-eq g c = λ kept.
     let layout = c.args.volume.now.volume.inodes.layout in
     let root : bytes_eq c.args.path.now (codes "/") ≡ true = sym c.eq.ensures ∙ c.if-eq.true in
     let names : names_in (listing_of layout c.args.path.now) ≡ directory_names (nat_lt 0 c.files-cnv.result.0) (nat_lt 0 c.files-cnv.result.1) =
@@ -19,7 +19,7 @@ returns-then-eq g c = λ buffer.
     tells_value tt (ap list_text (sym names)) refl
 
 pub returns-else-eq : goal.returns-else-eq
-returns-else-eq g c = λ buffer.
+returns-else-eq g c = λ kept.
     let layout = c.args.volume.now.volume.inodes.layout in
     let other : bytes_eq c.args.path.now (codes "/") ≡ false = sym c.eq.ensures ∙ c.if-eq.false in
     tells_value tt (ap list_text (sym (files_listed layout c.args.path.now c.args.entries other c.requires))) refl

@@ -1,24 +1,11 @@
-use Rattle.std.proofs.Common.{◌≡◌, ℕ, List, length, map, drop, ap, ◌∙◌, subst, arith}
-use Rattle.std.specs.List.{range_with_len}
+use Rattle.std.proofs.Common.{◌≡◌, length, drop, ◌∙◌}
 use Rattle.std.proofs.lemmas.Grind.{common_steps}
+use Rattle.std.proofs.Common.{arith}
 use Rattle.std.proofs.lemmas.List.{take_at}
-use Rattle.zn_truth.specs.declared.ZoneInfo.{ZoneInfo}
-use Rattle.zn_truth.specs.Orders.{ReportFrom}
-use Rattle.zn_truth.specs.Truth.{info_at}
-use Rattle.zn_device.specs.States.{Commanded}
-use Rattle.zn_truth.proofs.Issuing.{kinds-length}
 use Rattle.zn_volume.proofs.commands.report_all.Goals as goal
-
-pub returns-clause-done : goal.returns-clause-done
-returns-clause-done g c =
-    let zones : length c.deref_mut.result.now ≡ length (g.D.Zoned.state c.args.dev.now).world.truth.zones =
-    ap (λ (l : List ZoneInfo). length l) c.deref_mut.ensures.value ∙ c.requires.places ∙ kinds-length (g.D.Zoned.state c.args.dev.now).world in
-    subst (λ (n : ℕ). Commanded (ReportFrom 0 n) c.report.result (g.D.Zoned.state c.args.dev.now) (g.D.Zoned.state c.report.new.self)) zones c.report.ensures.done
 
 pub returns-clause-infos : goal.returns-clause-infos
 returns-clause-infos g c = λ ok.
-    let zones : length c.deref_mut.result.now ≡ length (g.D.Zoned.state c.args.dev.now).world.truth.zones =
-    ap (λ (l : List ZoneInfo). length l) c.deref_mut.ensures.value ∙ c.requires.places ∙ kinds-length (g.D.Zoned.state c.args.dev.now).world in
-    let n : length c.report.new.out ≡ c.args.infos.now.len = grind (arith, common_steps) in
-    take_at c.report.new.out (drop (length c.report.new.out) c.args.infos.now.items) c.args.infos.now.len n
-    ∙ c.report.ensures.infos ok ∙ ap (λ (k : ℕ). map (info_at (g.D.Zoned.state c.args.dev.now).world.truth) (range_with_len 0 k)) zones
+    let n : length c.report_zones.new.infos ≡ c.args.infos.now.len = grind (arith, common_steps) in
+    take_at c.report_zones.new.infos (drop (length c.report_zones.new.infos) c.args.infos.now.items) c.args.infos.now.len n
+    ∙ c.report_zones.ensures.infos ok
