@@ -24,14 +24,14 @@ abbrev IsRun : Run → Type 0
 IsRun run = (run.byte < 256) × (run.count ≤ MOST_BYTES)
 
 -- a hexadecimal digit is that of its worth
-digit-worth : (b : ℕ) → is_hex b ≡ true → (b ≡ hex_digit (hex_worth b)) × (hex_worth b < 16)
+pub digit-worth : (b : ℕ) → is_hex b ≡ true → (b ≡ hex_digit (hex_worth b)) × (hex_worth b < 16)
 digit-worth b is = (grind (arith, nat_tests), grind (arith, nat_tests))
 
 -- a number below 16 has a digit, of that worth
-worth-digit : (n : ℕ) → n < 16 → (is_hex (hex_digit n) ≡ true) × (hex_worth (hex_digit n) ≡ n)
+pub worth-digit : (n : ℕ) → n < 16 → (is_hex (hex_digit n) ≡ true) × (hex_worth (hex_digit n) ≡ n)
 worth-digit n small = (grind (arith, nat_tests), grind (arith, nat_tests))
 
-hex_digit-ge : (n : ℕ) → n < 16 → 48 ≤ hex_digit n
+pub hex_digit-ge : (n : ℕ) → n < 16 → 48 ≤ hex_digit n
 hex_digit-ge n small = grind (arith, nat_tests)
 
 MOST_BYTES-small : MOST_BYTES < 2 ^ 64

@@ -33,7 +33,7 @@ after_key-known key word text is =
     sym (take-append-drop (length key) word) ∙ ap (λ k. k ++ drop (length key) word) ((bytes_eq-Decides _ _).0 taken.0) ∙ ap (λ t. key ++ t) taken.1
 
 -- a kind of words behind a key
-keyed : {A : Type 0} {read : List ℕ → Option A} {word_of : A → List ℕ} {Fits : A → Type 0} → IsWordKind read word_of Fits → (key : List ℕ) → lacks 32 key ≡ true → IsWordKind (λ word. option_and_then read (after_key key word)) (λ x. key ++ word_of x) Fits
+pub keyed : {A : Type 0} {read : List ℕ → Option A} {word_of : A → List ℕ} {Fits : A → Type 0} → IsWordKind read word_of Fits → (key : List ℕ) → lacks 32 key ≡ true → IsWordKind (λ word. option_and_then read (after_key key word)) (λ x. key ++ word_of x) Fits
 keyed {read = read} {word_of = word_of} {Fits = Fits} kind key whole = record {
   written = λ x fits. ap (option_and_then read) (after_key-written key (word_of x)) ∙ kind.written x fits;
   known = λ word x is. option_and_then_some read (after_key key word) x is (λ text here taken.

@@ -4,6 +4,7 @@ pub mod DataWords
 pub mod WordKinds
 pub mod FormatItems
 pub mod ItemWords
+pub mod LossWords
 pub mod LineForms
 pub mod LineReading
 pub mod ToldLines

@@ -1,29 +1,31 @@
 -- Each form of a line: it is read from its words, and from no other words.
-use Rattle.std.proofs.Common.{◌≡◌, ℕ, ◌≤◌, List, [], ◌∷◌, ◌++◌, map, Option, Some, None, Result, Ok, Err, refl, ap, ◌∙◌, subst, arith, append-nil}
+use Rattle.std.proofs.Common.{◌≡◌, ℕ, ◌<◌, ◌≤◌, Bool, true, false, List, [], ◌∷◌, ◌++◌, map, Option, Some, None, Result, Ok, Err, refl, ap, ◌∙◌, subst, arith, append-nil}
 use Rattle.std.specs.List.{All}
 use Rattle.std.specs.List.Sorted.{IsPermutation}
-use Rattle.std.specs.Option.{option_map, option_to_list, IfSome, unwrap_or}
+use Rattle.std.specs.Option.{option_map, option_to_list, IfSome, unwrap_or, is_some}
 use Rattle.std.proofs.lemmas.List.Sorted.{All-permutation}
 use Rattle.std.specs.Fmt.{decimal}
 use Rattle.zn_lines.specs.declared.limits.TheConstants.{LAST_NUMBER}
 use Rattle.zn_truth.specs.declared.Command.{Command}
 use Rattle.zn_truth.specs.declared.Cond.{Cond}
+use Rattle.zn_truth.specs.declared.ZoneNo.{ZoneNo}
 use Rattle.zn_model.specs.declared.limits.TheConstants.{MOST_BYTES}
 use Rattle.zn_model.specs.declared.handles.Mode.{Mode}
-use Rattle.zn_base.specs.Runs.{Run, runs_text}
+use Rattle.zn_base.specs.Runs.{Run, hex, runs_text}
 use Rattle.zn_lines.specs.declared.words.Change.{Change}
 use Rattle.zn_lines.specs.declared.words.Change.TheVariants.{Create, Remove, Rename, Chmod, Chown}
 use Rattle.zn_lines.specs.declared.words.Verb.{Verb}
-use Rattle.zn_lines.specs.declared.words.Verb.TheVariants.{Mkfs as Formatting, Mount as Mounting, Umount as Unmounting, Open, Close, Size, Read, Write, Truncate, Sync, Stat, List as Listing, Attr, Create as Creating, Remove as Removing, Rename as Renaming, Chmod as ChangingMode, Chown as ChangingOwner, Fault, Turn}
-use Rattle.zn_lines.specs.Lines.{FormatWords, FormatItem, plain_format, items_of, Line, Mkfs, Mount, Umount, OpenFile, CloseFile, SizeOf, ReadFrom, WriteTo, TruncateTo, SyncFile, StatOf, ListOf, Attributes, Changes, FaultOn, TurnTo}
+use Rattle.zn_lines.specs.declared.words.Verb.TheVariants.{Mkfs as Formatting, Mount as Mounting, Umount as Unmounting, Open, Close, Size, Read, Write, Truncate, Sync, Stat, List as Listing, Attr, Create as Creating, Remove as Removing, Rename as Renaming, Chmod as ChangingMode, Chown as ChangingOwner, Fault, Turn, Submit, Complete as Completing, Reap as Reaping, Zones as ReportingZones, PowerLoss as LosingPower, PowerLossIn as LosingPowerIn, PowerOn as PoweringOn}
+use Rattle.zn_lines.specs.Lines.{FormatWords, FormatItem, plain_format, items_of, Line, Mkfs, Mount, Umount, OpenFile, CloseFile, SizeOf, ReadFrom, WriteTo, TruncateTo, SyncFile, SubmitTo, Complete, Reap, StatOf, ListOf, Attributes, Changes, Zones, FaultOn, TurnTo, PowerLoss, PowerLossIn, PowerOn}
 use Rattle.zn_base.specs.Decimals.{number_in}
 use Rattle.zn_lines.specs.Words.{Left, ◌>>=◌, optional, no_more}
-use Rattle.zn_lines.specs.Grammar.{last_offset, last_zone, last_u32, path_of, items_on, uid_key, gid_key, user_after, who_named, mkfs_line, mount_line, umount_line, open_line, close_line, size_line, read_line, write_line, truncate_line, sync_line, stat_line, list_line, attr_line, path_change, rename_line, chmod_line, chown_line, fault_line, turn_line, line_with, verb_name, mode_name, kind_name, worse_name}
-use Rattle.zn_lines.specs.LineTexts.{IsPath, item_word, IsItem, user_words, who_words, line_words, IsReadable, IsChange, AreWords}
-use Rattle.zn_lines.proofs.LineWords.{IsWordKind, IsReadFrom, next-written, next-known, optional-written, optional-left_out, optional-known, words_if, no_more-written, no_more-known}
+use Rattle.zn_lines.specs.Grammar.{last_offset, last_zone, last_u32, path_of, items_on, uid_key, gid_key, user_after, who_named, done_word, done_in, fill_key, fill_of, cuts_on, mkfs_line, mount_line, umount_line, open_line, close_line, size_line, read_line, write_line, truncate_line, sync_line, stat_line, list_line, attr_line, path_change, rename_line, chmod_line, chown_line, fault_line, turn_line, submit_line, complete_line, reap_line, zones_line, power_loss_line, power_loss_in_line, power_on_line, line_with, verb_name, mode_name, kind_name, worse_name}
+use Rattle.zn_lines.specs.LineTexts.{IsPath, AreCuts, item_word, IsItem, user_words, who_words, fill_words, done_words, cut_word, loss_words, line_words, IsReadable, IsChange, AreWords}
+use Rattle.zn_lines.proofs.LineWords.{IsWordKind, IsReadFrom, IsOther, next-written, next-known, optional-written, optional-left_out, optional-known, words_if, no_more-written, no_more-known}
 use Rattle.zn_lines.proofs.WordKinds.{numbers, paths, modes, kinds, worse_conditions}
 use Rattle.zn_lines.proofs.ItemWords.{u32s, uids, gids, gid-no_uid, items-lack, format-read, format-known}
 use Rattle.zn_lines.proofs.DataWords.{data_words}
+use Rattle.zn_lines.proofs.LossWords.{dones, fills, fill-no_done, cuts-no_done, cuts-no_fill, cuts-lack, cuts-read, cuts-known}
 
 -- ---- the words that lines have
 
@@ -403,6 +405,157 @@ turn-known left line is =
     let ended = no_more-known (TurnTo zone.x to.x) line to.rest to.follow in
     subst (SpellsWith Turn left) ended.1 (cc (zone.words, to.words, ended.0), (zone.fits, to.fits))
 
+-- ---- submit N NUM DATA
+
+pub submit-written : (number offset : ℕ) (runs : List Run) → IsReadable (SubmitTo number offset runs) → IsReadFrom (decimal number ∷ decimal offset ∷ runs_text runs ∷ []) submit_line (SubmitTo number offset runs)
+unfolding submit_line IsReadable
+submit-written number offset runs fits =
+    next-written handles number fits.0 (next-written offsets offset fits.1 (next-written data_words runs fits.2 (no_more-written _)))
+
+submit-known : (left : Left) (line : Line) → submit_line left ≡ Ok line → SpellsWith Submit left line
+unfolding submit_line line_words AreWords IsReadable
+submit-known left line is =
+    let number = next-known handles left _ line is in
+    let offset = next-known offsets number.rest _ line number.follow in
+    let runs = next-known data_words offset.rest _ line offset.follow in
+    let ended = no_more-known (SubmitTo number.x offset.x runs.x) line runs.rest runs.follow in
+    subst (SpellsWith Submit left) ended.1 (cc (number.words, offset.words, runs.words, ended.0), (number.fits, offset.fits, runs.fits))
+
+-- ---- complete
+
+pub complete-written : IsReadFrom [] complete_line Complete
+unfolding complete_line
+complete-written = no_more-written _
+
+complete-known : (left : Left) (line : Line) → complete_line left ≡ Ok line → SpellsWith Completing left line
+unfolding complete_line line_words AreWords IsReadable
+complete-known left line is =
+    let ended = no_more-known Complete line left is in
+    subst (SpellsWith Completing left) ended.1 (ap (λ ws. verb_name Completing ∷ ws) ended.0, tt)
+
+-- ---- reap
+
+pub reap-written : IsReadFrom [] reap_line Reap
+unfolding reap_line
+reap-written = no_more-written _
+
+reap-known : (left : Left) (line : Line) → reap_line left ≡ Ok line → SpellsWith Reaping left line
+unfolding reap_line line_words AreWords IsReadable
+reap-known left line is =
+    let ended = no_more-known Reap line left is in
+    subst (SpellsWith Reaping left) ended.1 (ap (λ ws. verb_name Reaping ∷ ws) ended.0, tt)
+
+-- ---- zones
+
+pub zones-written : IsReadFrom [] zones_line Zones
+unfolding zones_line
+zones-written = no_more-written _
+
+zones-known : (left : Left) (line : Line) → zones_line left ≡ Ok line → SpellsWith ReportingZones left line
+unfolding zones_line line_words AreWords IsReadable
+zones-known left line is =
+    let ended = no_more-known Zones line left is in
+    subst (SpellsWith ReportingZones left) ended.1 (ap (λ ws. verb_name ReportingZones ∷ ws) ended.0, tt)
+
+-- ---- power-loss, and what a loss leaves
+
+-- What is read behind `power-loss`: a byte that is filled in, and cuts.
+loss_of : (Option ℕ → List (ZoneNo × ℕ) → Line) → Left → Result Line ℕ
+loss_of make left = do
+  fill ← optional fill_of left
+  cuts ← cuts_on [] fill.1.column fill.1.words
+  Ok (make fill.0 cuts)
+
+cuts-written : (make : List (ZoneNo × ℕ) → Line) (cuts : List (ZoneNo × ℕ)) → AreCuts cuts → IsReadFrom (map cut_word cuts) (λ left. cuts_on [] left.column left.words >>= λ cuts. Ok (make cuts)) (make cuts)
+cuts-written make cuts fit =
+    record {
+      whole = cuts-lack cuts fit.0;
+      reads = λ left are. rw are (ap (λ r. r >>= λ cuts. Ok (make cuts)) (cuts-read cuts left.column fit));
+    }
+
+loss-written : (make : Option ℕ → List (ZoneNo × ℕ) → Line) (fill : Option ℕ) (cuts : List (ZoneNo × ℕ)) → IfSome fill (λ byte. byte < 256) → AreCuts cuts → IsReadFrom (loss_words fill cuts) (loss_of make) (make fill cuts)
+unfolding loss_of
+loss-written make None cuts fits fit = optional-left_out fill_of (map cut_word cuts) (cuts-no_fill cuts fit.0) (cuts-written (make None) cuts fit)
+loss-written make (Some byte) cuts fits fit = optional-written fills byte fits (cuts-written (make (Some byte)) cuts fit)
+
+-- What is known of a loss that was read.
+record IsLoss (make : Option ℕ → List (ZoneNo × ℕ) → Line) (left : Left) (line : Line) : Type 0 where
+  fill : Option ℕ
+  cuts : List (ZoneNo × ℕ)
+  words : left.words ≡ loss_words fill cuts
+  in_byte : IfSome fill (λ byte. byte < 256)
+  are_cuts : AreCuts cuts
+  line_is : make fill cuts ≡ line
+
+written_fill : (fill : Option ℕ) → words_if (λ byte. fill_key ++ hex byte) fill ≡ fill_words fill
+written_fill None = refl
+written_fill (Some byte) = refl
+
+loss-known : (make : Option ℕ → List (ZoneNo × ℕ) → Line) (left : Left) (line : Line) → loss_of make left ≡ Ok line → IsLoss make left line
+unfolding loss_of
+loss-known make left line is =
+    let fill = optional-known fills left _ line is in
+    go fill.x fill.rest (fill.words ∙ ap (λ ws. ws ++ fill.rest.words) (written_fill fill.x)) fill.fits (cuts_on [] fill.rest.column fill.rest.words) refl fill.follow
+  where
+    go : (fill : Option ℕ) (rest : Left) → left.words ≡ fill_words fill ++ rest.words → IfSome fill (λ byte. byte < 256) → (r : Result (List (ZoneNo × ℕ)) ℕ) → cuts_on [] rest.column rest.words ≡ r
+        → r >>= (λ cuts. Ok (make fill cuts)) ≡ Ok line → IsLoss make left line
+    go fill rest words fits (Err column) here is = absurd cc
+    go fill rest words fits (Ok cuts) here is =
+        let known = cuts-known rest.words cuts rest.column here in
+        record { fill = fill; cuts = cuts; words = words ∙ ap (λ ws. fill_words fill ++ ws) known.0; in_byte = fits; are_cuts = known.1; line_is = cc }
+
+pub power_loss-written : (fill : Option ℕ) (cuts : List (ZoneNo × ℕ)) → IsReadable (PowerLoss fill cuts) → IsReadFrom (loss_words fill cuts) power_loss_line (PowerLoss fill cuts)
+unfolding power_loss_line IsReadable loss_of
+power_loss-written fill cuts fits = loss-written PowerLoss fill cuts fits.0 fits.1
+
+power_loss-known : (left : Left) (line : Line) → power_loss_line left ≡ Ok line → SpellsWith LosingPower left line
+unfolding power_loss_line line_words AreWords IsReadable loss_of
+power_loss-known left line is =
+    let loss = loss-known PowerLoss left line is in
+    subst (SpellsWith LosingPower left) loss.line_is (ap (λ ws. verb_name LosingPower ∷ ws) loss.words, (loss.in_byte, loss.are_cuts))
+
+-- ---- power-loss-in NUM KIND, and what the loss leaves
+
+-- no word of a loss is `done`
+loss-no_done : (fill : Option ℕ) (cuts : List (ZoneNo × ℕ)) → AreCuts cuts → IsOther done_in (loss_words fill cuts)
+loss-no_done None cuts fit = cuts-no_done cuts fit.0
+loss-no_done (Some byte) cuts fit = fill-no_done byte
+
+pub power_loss_in-written : (zone : ℕ) (command : Command) (carried_out : Bool) (fill : Option ℕ) (cuts : List (ZoneNo × ℕ)) → IsReadable (PowerLossIn zone command carried_out fill cuts)
+    → IsReadFrom (decimal zone ∷ kind_name command ∷ (done_words carried_out ++ loss_words fill cuts)) power_loss_in_line (PowerLossIn zone command carried_out fill cuts)
+unfolding power_loss_in_line IsReadable loss_of
+power_loss_in-written zone command true fill cuts fits =
+    next-written zones zone fits.0 (next-written kinds command tt (optional-written dones tt tt (loss-written (PowerLossIn zone command true) fill cuts fits.1 fits.2)))
+power_loss_in-written zone command false fill cuts fits =
+    next-written zones zone fits.0 (next-written kinds command tt (optional-left_out done_in (loss_words fill cuts) (loss-no_done fill cuts fits.2) (loss-written (PowerLossIn zone command false) fill cuts fits.1 fits.2)))
+
+written_done : (x : Option (Unit {0})) → words_if (λ x. done_word) x ≡ done_words (is_some x)
+written_done None = refl
+written_done (Some x) = refl
+
+power_loss_in-known : (left : Left) (line : Line) → power_loss_in_line left ≡ Ok line → SpellsWith LosingPowerIn left line
+unfolding power_loss_in_line line_words AreWords IsReadable loss_of
+power_loss_in-known left line is =
+    let zone = next-known zones left _ line is in
+    let command = next-known kinds zone.rest _ line zone.follow in
+    let carried_out = optional-known dones command.rest _ line command.follow in
+    let loss = loss-known (PowerLossIn zone.x command.x (is_some carried_out.x)) carried_out.rest line carried_out.follow in
+    let last : command.rest.words ≡ done_words (is_some carried_out.x) ++ loss_words loss.fill loss.cuts =
+    carried_out.words ∙ ap (λ ws. ws ++ carried_out.rest.words) (written_done carried_out.x) ∙ ap (λ ws. done_words (is_some carried_out.x) ++ ws) loss.words in
+    subst (SpellsWith LosingPowerIn left) loss.line_is (cc (zone.words, command.words, last), (zone.fits, loss.in_byte, loss.are_cuts))
+
+-- ---- power-on
+
+pub power_on-written : IsReadFrom [] power_on_line PowerOn
+unfolding power_on_line
+power_on-written = no_more-written _
+
+power_on-known : (left : Left) (line : Line) → power_on_line left ≡ Ok line → SpellsWith PoweringOn left line
+unfolding power_on_line line_words AreWords IsReadable
+power_on-known left line is =
+    let ended = no_more-known PowerOn line left is in
+    subst (SpellsWith PoweringOn left) ended.1 (ap (λ ws. verb_name PoweringOn ∷ ws) ended.0, tt)
+
 -- ---- what follows a verb
 
 -- what is read behind a verb spells its line
@@ -427,3 +580,10 @@ line_with-known ChangingMode left line is = chmod-known left line is
 line_with-known ChangingOwner left line is = chown-known left line is
 line_with-known Fault left line is = fault-known left line is
 line_with-known Turn left line is = turn-known left line is
+line_with-known Submit left line is = submit-known left line is
+line_with-known Completing left line is = complete-known left line is
+line_with-known Reaping left line is = reap-known left line is
+line_with-known ReportingZones left line is = zones-known left line is
+line_with-known LosingPower left line is = power_loss-known left line is
+line_with-known LosingPowerIn left line is = power_loss_in-known left line is
+line_with-known PoweringOn left line is = power_on-known left line is

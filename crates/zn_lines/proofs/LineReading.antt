@@ -9,8 +9,8 @@ use Rattle.std.proofs.lemmas.Bool.{eqb-true, cond-false, false_from_ne_true}
 use Rattle.zn_lines.specs.declared.words.Change.{Change}
 use Rattle.zn_lines.specs.declared.words.Change.TheVariants.{Create, Remove, Rename, Chmod, Chown}
 use Rattle.zn_lines.specs.declared.words.Verb.{Verb}
-use Rattle.zn_lines.specs.declared.words.Verb.TheVariants.{Mkfs as Formatting, Mount as Mounting, Umount as Unmounting, Open, Close, Size, Read, Write, Truncate, Sync, Stat, List as Listing, Attr, Create as Creating, Remove as Removing, Rename as Renaming, Chmod as ChangingMode, Chown as ChangingOwner, Fault, Turn}
-use Rattle.zn_lines.specs.Lines.{items_of, Line, Mkfs, Mount, Umount, OpenFile, CloseFile, SizeOf, ReadFrom, WriteTo, TruncateTo, SyncFile, StatOf, ListOf, Attributes, Changes, FaultOn, TurnTo}
+use Rattle.zn_lines.specs.declared.words.Verb.TheVariants.{Mkfs as Formatting, Mount as Mounting, Umount as Unmounting, Open, Close, Size, Read, Write, Truncate, Sync, Stat, List as Listing, Attr, Create as Creating, Remove as Removing, Rename as Renaming, Chmod as ChangingMode, Chown as ChangingOwner, Fault, Turn, Submit, Complete as Completing, Reap as Reaping, Zones as ReportingZones, PowerLoss as LosingPower, PowerLossIn as LosingPowerIn, PowerOn as PoweringOn}
+use Rattle.zn_lines.specs.Lines.{items_of, Line, Mkfs, Mount, Umount, OpenFile, CloseFile, SizeOf, ReadFrom, WriteTo, TruncateTo, SyncFile, SubmitTo, Complete, Reap, StatOf, ListOf, Attributes, Changes, Zones, FaultOn, TurnTo, PowerLoss, PowerLossIn, PowerOn}
 use Rattle.zn_lines.specs.Words.{is_blank, ◌>>=◌, next, next_of, words_of}
 use Rattle.zn_lines.specs.Grammar.{who_named, verb_of, line_with, line_of, some_line, reading_of, verb_name}
 use Rattle.zn_lines.specs.LineTexts.{unless_zero, line_words, IsReadable, IsChange, AreWords, spaced, line_text, IsText}
@@ -18,7 +18,7 @@ use Rattle.zn_lines.specs.LineLaws.{WrittenIsRead, ReadIsWritten, TextIsRead, Re
 use Rattle.zn_lines.proofs.Separated.{slice_split-join, join-slice_split}
 use Rattle.zn_lines.proofs.LineWords.{IsReadFrom, next-written, next-known}
 use Rattle.zn_lines.proofs.WordKinds.{verbs}
-use Rattle.zn_lines.proofs.LineForms.{Spells, mkfs-written, mount-written, umount-written, open-written, close-written, size-written, read-written, write-written, truncate-written, sync-written, stat-written, list-written, attr-written, path-written, rename-written, chmod-written, chown-written, fault-written, turn-written, line_with-known}
+use Rattle.zn_lines.proofs.LineForms.{Spells, mkfs-written, mount-written, umount-written, open-written, close-written, size-written, read-written, write-written, truncate-written, sync-written, stat-written, list-written, attr-written, path-written, rename-written, chmod-written, chown-written, fault-written, turn-written, submit-written, complete-written, reap-written, zones-written, power_loss-written, power_loss_in-written, power_on-written, line_with-known}
 
 -- ---- what is written is read
 
@@ -57,7 +57,15 @@ words-read words (ListOf path) are fits bytes is = line-written Listing (list-wr
 words-read words Attributes are fits bytes is = line-written Attr attr-written bytes (is ∙ ap spaced are)
 words-read words (FaultOn zone command keep) are fits bytes is = line-written Fault (fault-written zone command keep fits) bytes (is ∙ ap spaced are)
 words-read words (TurnTo zone to) are fits bytes is = line-written Turn (turn-written zone to fits) bytes (is ∙ ap spaced are)
-words-read words _ are fits bytes is = absurd fits
+words-read words (SubmitTo number offset runs) are fits bytes is = line-written Submit (submit-written number offset runs fits) bytes (is ∙ ap spaced are)
+words-read words Complete are fits bytes is = line-written Completing complete-written bytes (is ∙ ap spaced are)
+words-read words Reap are fits bytes is = line-written Reaping reap-written bytes (is ∙ ap spaced are)
+words-read words Zones are fits bytes is = line-written ReportingZones zones-written bytes (is ∙ ap spaced are)
+words-read words (PowerLoss fill cuts) are fits bytes is = line-written LosingPower (power_loss-written fill cuts fits) bytes (is ∙ ap spaced are)
+words-read words (PowerLossIn zone command carried_out fill cuts) are fits bytes is =
+    line-written LosingPowerIn (power_loss_in-written zone command carried_out fill cuts fits) bytes (is ∙ ap spaced are)
+words-read words PowerOn are fits bytes is = line-written PoweringOn power_on-written bytes (is ∙ ap spaced are)
+words-read words (Changes change) are fits bytes is = absurd fits
 
 pub written_is_read : WrittenIsRead
 unfolding IsText

@@ -13,7 +13,7 @@ use Rattle.zn_truth.specs.declared.Cond.TheVariants.{Good, ReadOnly, Offline}
 use Rattle.zn_model.specs.declared.handles.Mode.{Mode}
 use Rattle.zn_base.specs.Decimals.{number_in}
 use Rattle.zn_lines.specs.declared.words.Verb.{Verb}
-use Rattle.zn_lines.specs.declared.words.Verb.TheVariants.{Mkfs as Formatting, Mount as Mounting, Umount as Unmounting, Open, Close, Size, Read, Write, Truncate, Sync, Stat, List as Listing, Attr, Create as Creating, Remove as Removing, Rename as Renaming, Chmod as ChangingMode, Chown as ChangingOwner, Fault, Turn}
+use Rattle.zn_lines.specs.declared.words.Verb.TheVariants.{Mkfs as Formatting, Mount as Mounting, Umount as Unmounting, Open, Close, Size, Read, Write, Truncate, Sync, Stat, List as Listing, Attr, Create as Creating, Remove as Removing, Rename as Renaming, Chmod as ChangingMode, Chown as ChangingOwner, Fault, Turn, Submit, Complete as Completing, Reap as Reaping, Zones as ReportingZones, PowerLoss as LosingPower, PowerLossIn as LosingPowerIn, PowerOn as PoweringOn}
 use Rattle.zn_lines.specs.Grammar.{is_printable, path_of, mode_in, kind_in, worse_in, verb_of, verb_name, mode_name, kind_name, worse_name}
 use Rattle.zn_lines.specs.LineTexts.{IsMode, IsWorse, IsPath}
 use Rattle.zn_lines.proofs.Separated.{decimal-lacks, lacks, passing-lack}
@@ -190,6 +190,13 @@ verb-written ChangingMode = refl
 verb-written ChangingOwner = refl
 verb-written Fault = refl
 verb-written Turn = refl
+verb-written Submit = refl
+verb-written Completing = refl
+verb-written Reaping = refl
+verb-written ReportingZones = refl
+verb-written LosingPower = refl
+verb-written LosingPowerIn = refl
+verb-written PoweringOn = refl
 
 verb-lacks : (verb : Verb) → lacks 32 (verb_name verb) ≡ true
 verb-lacks Formatting = refl
@@ -212,6 +219,13 @@ verb-lacks ChangingMode = refl
 verb-lacks ChangingOwner = refl
 verb-lacks Fault = refl
 verb-lacks Turn = refl
+verb-lacks Submit = refl
+verb-lacks Completing = refl
+verb-lacks Reaping = refl
+verb-lacks ReportingZones = refl
+verb-lacks LosingPower = refl
+verb-lacks LosingPowerIn = refl
+verb-lacks PoweringOn = refl
 
 verb-known : (word : List ℕ) (verb : Verb) → verb_of word ≡ Some verb → word ≡ verb_name verb
 unfolding verb_of
@@ -236,7 +250,14 @@ verb-known word verb is =
     chosen P word _ ChangingMode verb _ is (λ e. e) (λ is.
     chosen P word _ ChangingOwner verb _ is (λ e. e) (λ is.
     chosen P word _ Fault verb _ is (λ e. e) (λ is.
-    chosen P word _ Turn verb _ is (λ e. e) (λ is. absurd (none-some verb is)))))))))))))))))))))
+    chosen P word _ Turn verb _ is (λ e. e) (λ is.
+    chosen P word _ Submit verb _ is (λ e. e) (λ is.
+    chosen P word _ Completing verb _ is (λ e. e) (λ is.
+    chosen P word _ Reaping verb _ is (λ e. e) (λ is.
+    chosen P word _ ReportingZones verb _ is (λ e. e) (λ is.
+    chosen P word _ LosingPower verb _ is (λ e. e) (λ is.
+    chosen P word _ LosingPowerIn verb _ is (λ e. e) (λ is.
+    chosen P word _ PoweringOn verb _ is (λ e. e) (λ is. absurd (none-some verb is))))))))))))))))))))))))))))
 
 pub verbs : IsWordKind verb_of verb_name (λ verb. Unit {0})
 verbs = record {

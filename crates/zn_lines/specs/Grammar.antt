@@ -1,10 +1,5 @@
 -- The lines of the grammar: each form is a list of words. (own)
---
--- So far the lines that format, mount and unmount are read, those that open, close, read, write, truncate, sync and
--- look at files, the one that tells the volume's attributes, the changes that are never allowed, and those that let a
--- device fail and turn its zones. The other lines have no form yet: they are refused, at the column of the word that
--- does not fit so far.
-use Rattle.std.specs.Prelude.{ℕ, ◌+◌, ◌-◌, ◌*◌, Bool, true, ◌&&◌, ◌||◌, ◌==◌, List, [], ◌∷◌, length, take, drop, Option, Some, None, is_some, unwrap_or, option_and_then, Result, Ok, Err, codes, nat_le, if◌then◌else◌}
+use Rattle.std.specs.Prelude.{ℕ, ◌+◌, ◌-◌, ◌*◌, Bool, true, ◌&&◌, ◌||◌, ◌==◌, List, [], ◌∷◌, ◌++◌, length, take, drop, Option, Some, None, is_some, unwrap_or, option_and_then, Result, Ok, Err, codes, nat_le, nat_lt, if◌then◌else◌}
 use Rattle.std.specs.List.{find, list_all, slice_split}
 use Rattle.std.specs.Option.{option_map, option_or}
 use Rattle.std.specs.Str.{bytes_eq}
@@ -14,6 +9,8 @@ use Rattle.zn_truth.specs.declared.Command.{Command}
 use Rattle.zn_truth.specs.declared.Command.TheVariants.{Read as Reading, Write as Writing, Reset as Resetting, Finish as Finishing, Flush as Flushing, Open as Opening, Close as Closing, Report as Reporting}
 use Rattle.zn_truth.specs.declared.Cond.{Cond}
 use Rattle.zn_truth.specs.declared.Cond.TheVariants.{Good, ReadOnly, Offline}
+use Rattle.zn_truth.specs.declared.ZoneNo.{ZoneNo}
+use Rattle.zn_truth.specs.declared.limits.TheConstants.{MAX_CUTS}
 use Rattle.zn_base.specs.Decimals.{number_in}
 use Rattle.zn_base.specs.Runs.{Run}
 use Rattle.zn_base.specs.Texts.{◌⧺◌}
@@ -23,8 +20,8 @@ use Rattle.zn_model.specs.Access.{reads, writes}
 use Rattle.zn_lines.specs.declared.words.Change.{Change}
 use Rattle.zn_lines.specs.declared.words.Change.TheVariants.{Create, Remove, Rename, Chmod, Chown}
 use Rattle.zn_lines.specs.declared.words.Verb.{Verb}
-use Rattle.zn_lines.specs.declared.words.Verb.TheVariants.{Mkfs as Formatting, Mount as Mounting, Umount as Unmounting, Open, Close, Size, Read, Write, Truncate, Sync, Stat, List as Listing, Attr, Create as Creating, Remove as Removing, Rename as Renaming, Chmod as ChangingMode, Chown as ChangingOwner, Fault, Turn}
-use Rattle.zn_lines.specs.Lines.{FormatWords, FormatItem, Force, Label, Uuid, Features, plain_format, Line, Mkfs, Mount, Umount, OpenFile, CloseFile, SizeOf, ReadFrom, WriteTo, TruncateTo, SyncFile, StatOf, ListOf, Attributes, Changes, FaultOn, TurnTo}
+use Rattle.zn_lines.specs.declared.words.Verb.TheVariants.{Mkfs as Formatting, Mount as Mounting, Umount as Unmounting, Open, Close, Size, Read, Write, Truncate, Sync, Stat, List as Listing, Attr, Create as Creating, Remove as Removing, Rename as Renaming, Chmod as ChangingMode, Chown as ChangingOwner, Fault, Turn, Submit, Complete as Completing, Reap as Reaping, Zones as ReportingZones, PowerLoss as LosingPower, PowerLossIn as LosingPowerIn, PowerOn as PoweringOn}
+use Rattle.zn_lines.specs.Lines.{FormatWords, FormatItem, Force, Label, Uuid, Features, plain_format, Line, Mkfs, Mount, Umount, OpenFile, CloseFile, SizeOf, ReadFrom, WriteTo, TruncateTo, SyncFile, SubmitTo, Complete, Reap, StatOf, ListOf, Attributes, Changes, Zones, FaultOn, TurnTo, PowerLoss, PowerLossIn, PowerOn}
 use Rattle.zn_lines.specs.Words.{Left, ◌>>=◌, next, optional, no_more, words_of}
 
 -- ---- limits
@@ -37,7 +34,8 @@ last_offset = 18446744073709551615
 abbrev pub last_zone : ℕ
 last_zone = last_offset
 
--- the greatest mode, user, group and number of blocks that are kept: the greatest number of 32 bits
+-- the greatest mode, user, group, number of blocks that are kept and length that a zone is cut to: the greatest number of
+-- 32 bits
 abbrev pub last_u32 : ℕ
 last_u32 = 4294967295
 
@@ -177,6 +175,71 @@ who_named uid gid = record { uid = unwrap_or uid 0; gid = unwrap_or gid 0 }
 abbrev pub root : Who
 root = who_named None None
 
+-- ---- losses of power
+
+-- the word of a command that is carried out before the power goes
+abbrev pub done_word : List ℕ
+done_word = codes "done"
+
+-- `done` by its word; any other word is none
+unfoldable pub done_in : List ℕ → Option (Unit {0})
+done_in word = if bytes_eq word done_word then Some tt else None
+
+-- the key of a byte that is filled in
+abbrev pub fill_key : List ℕ
+fill_key = codes "fill="
+
+-- HH: a byte as two hexadecimal digits
+unfoldable pub byte_of : List ℕ → Option ℕ
+byte_of [] = None
+byte_of (high ∷ []) = None
+byte_of (high ∷ low ∷ []) = if is_hex high && is_hex low then Some (hex_worth high * 16 + hex_worth low) else None
+byte_of (high ∷ low ∷ more ∷ bytes) = None
+
+-- the key of a fill, and a byte behind it
+abbrev pub fill_of : List ℕ → Option ℕ
+fill_of word = option_and_then byte_of (after_key fill_key word)
+
+-- the byte `:`, which parts a zone and its length
+abbrev pub is_colon : ℕ → Bool
+is_colon b = b == 58
+
+-- a zone and the blocks that it is cut to, where both numbers could be read
+abbrev pub cut_by : Option ℕ → Option ℕ → Option (ZoneNo × ℕ)
+cut_by None blocks = None
+cut_by (Some zone) None = None
+cut_by (Some zone) (Some blocks) = Some (record { 0 = zone }, blocks)
+
+-- the numbers of a zone and of blocks, and no more
+abbrev pub cut_in : List (List ℕ) → Option (ZoneNo × ℕ)
+cut_in [] = None
+cut_in (zone ∷ []) = None
+cut_in (zone ∷ blocks ∷ []) = cut_by (number_in last_zone zone) (number_in last_u32 blocks)
+cut_in (zone ∷ blocks ∷ more ∷ parts) = None
+
+-- a cut NUM:U32; any other word is none
+unfoldable pub cut_of : List ℕ → Option (ZoneNo × ℕ)
+cut_of word = cut_in (slice_split is_colon word)
+
+-- one cut more, unless there are 64
+abbrev pub with_cut : List (ZoneNo × ℕ) → ZoneNo × ℕ → Option (List (ZoneNo × ℕ))
+with_cut found cut = if nat_lt (length found) MAX_CUTS then Some (found ++ cut ∷ []) else None
+
+-- a word as one cut more
+abbrev pub cut_after : List (ZoneNo × ℕ) → List ℕ → Option (List (ZoneNo × ℕ))
+cut_after found word = option_and_then (with_cut found) (cut_of word)
+
+-- one cut more and then the others, or the column where its word does not fit
+abbrev pub cut_then : Option (List (ZoneNo × ℕ)) → ℕ → (List (ZoneNo × ℕ) → Result (List (ZoneNo × ℕ)) ℕ) → Result (List (ZoneNo × ℕ)) ℕ
+cut_then None column follows = Err column
+cut_then (Some found) column follows = follows found
+
+-- each word that is left is one cut more, of at most 64
+unfoldable pub cuts_on : List (ZoneNo × ℕ) → ℕ → List (List ℕ) → Result (List (ZoneNo × ℕ)) ℕ
+cuts_on found column [] = Ok found
+cuts_on found column (word ∷ words) =
+    cut_then (cut_after found word) column (λ more. cuts_on more (column + length word + 1) words)
+
 -- ---- items of a format
 
 -- the item without a text
@@ -251,12 +314,20 @@ verb_name ChangingMode = codes "chmod"
 verb_name ChangingOwner = codes "chown"
 verb_name Fault = codes "fault"
 verb_name Turn = codes "turn"
+verb_name Submit = codes "submit"
+verb_name Completing = codes "complete"
+verb_name Reaping = codes "reap"
+verb_name ReportingZones = codes "zones"
+verb_name LosingPower = codes "power-loss"
+verb_name LosingPowerIn = codes "power-loss-in"
+verb_name PoweringOn = codes "power-on"
 
--- all verbs so far
+-- all verbs
 abbrev pub all_verbs : List Verb
 all_verbs =
     Formatting ∷ Mounting ∷ Unmounting ∷ Open ∷ Close ∷ Size ∷ Read ∷ Write ∷ Truncate ∷ Sync ∷ Stat ∷ Listing ∷ Attr
-    ∷ Creating ∷ Removing ∷ Renaming ∷ ChangingMode ∷ ChangingOwner ∷ Fault ∷ Turn ∷ []
+    ∷ Creating ∷ Removing ∷ Renaming ∷ ChangingMode ∷ ChangingOwner ∷ Fault ∷ Turn
+    ∷ Submit ∷ Completing ∷ Reaping ∷ ReportingZones ∷ LosingPower ∷ LosingPowerIn ∷ PoweringOn ∷ []
 
 -- each verb by its word; any other word is none
 unfoldable pub verb_of : List ℕ → Option Verb
@@ -388,6 +459,47 @@ turn_line left = do
   to ← next worse_in zone.1
   no_more (TurnTo zone.0 to.0) to.1
 
+-- submit N NUM DATA
+unfoldable pub submit_line : Left → Result Line ℕ
+submit_line left = do
+  number ← next (number_in LAST_NUMBER) left
+  offset ← next (number_in last_offset) number.1
+  runs ← next data_of offset.1
+  no_more (SubmitTo number.0 offset.0 runs.0) runs.1
+
+-- complete
+unfoldable pub complete_line : Left → Result Line ℕ
+complete_line left = no_more Complete left
+
+-- reap
+unfoldable pub reap_line : Left → Result Line ℕ
+reap_line left = no_more Reap left
+
+-- zones
+unfoldable pub zones_line : Left → Result Line ℕ
+zones_line left = no_more Zones left
+
+-- power-loss, and then optionally fill=HH, and then up to 64 words NUM:U32
+unfoldable pub power_loss_line : Left → Result Line ℕ
+power_loss_line left = do
+  fill ← optional fill_of left
+  cuts ← cuts_on [] fill.1.column fill.1.words
+  Ok (PowerLoss fill.0 cuts)
+
+-- power-loss-in NUM KIND, and then optionally done, and then optionally fill=HH, and then up to 64 words NUM:U32
+unfoldable pub power_loss_in_line : Left → Result Line ℕ
+power_loss_in_line left = do
+  zone ← next (number_in last_zone) left
+  command ← next kind_in zone.1
+  carried_out ← optional done_in command.1
+  fill ← optional fill_of carried_out.1
+  cuts ← cuts_on [] fill.1.column fill.1.words
+  Ok (PowerLossIn zone.0 command.0 (is_some carried_out.0) fill.0 cuts)
+
+-- power-on
+unfoldable pub power_on_line : Left → Result Line ℕ
+power_on_line left = no_more PowerOn left
+
 -- what stands behind a verb is read by the form of that verb
 abbrev pub line_with : Verb → Left → Result Line ℕ
 line_with Formatting left = mkfs_line left
@@ -410,6 +522,13 @@ line_with ChangingMode left = chmod_line left
 line_with ChangingOwner left = chown_line left
 line_with Fault left = fault_line left
 line_with Turn left = turn_line left
+line_with Submit left = submit_line left
+line_with Completing left = complete_line left
+line_with Reaping left = reap_line left
+line_with ReportingZones left = zones_line left
+line_with LosingPower left = power_loss_line left
+line_with LosingPowerIn left = power_loss_in_line left
+line_with PoweringOn left = power_on_line left
 
 -- the line that words are, or the column of the first word that does not fit
 unfoldable pub line_of : List ℕ → Result Line ℕ

@@ -1,13 +1,14 @@
 -- Lines and numbers, and what they are read as. (own)
-use Rattle.std.specs.Prelude.{◌≡◌, true, [], ◌∷◌, Some, None, Ok, Err, codes}
+use Rattle.std.specs.Prelude.{◌≡◌, ℕ, true, false, List, [], ◌∷◌, replicate, Some, None, Ok, Err, codes}
 use Rattle.zn_truth.specs.declared.Command.TheVariants.{Read as Reading, Write as Writing, Reset as Resetting, Flush as Flushing, Report as Reporting}
 use Rattle.zn_truth.specs.declared.Cond.TheVariants.{ReadOnly, Offline}
+use Rattle.zn_truth.specs.declared.ZoneNo.{ZoneNo}
 use Rattle.zn_model.specs.declared.limits.TheConstants.{MOST_BYTES}
 use Rattle.zn_lines.specs.declared.words.Change.TheVariants.{Create, Rename, Chmod, Chown}
-use Rattle.zn_lines.specs.Lines.{FormatWords, plain_format, Line, Mkfs, Mount, Umount, OpenFile, CloseFile, SizeOf, ReadFrom, WriteTo, TruncateTo, SyncFile, StatOf, ListOf, Attributes, Changes, FaultOn, TurnTo}
+use Rattle.zn_lines.specs.Lines.{FormatWords, plain_format, Line, Mkfs, Mount, Umount, OpenFile, CloseFile, SizeOf, ReadFrom, WriteTo, TruncateTo, SyncFile, SubmitTo, Complete, Reap, StatOf, ListOf, Attributes, Changes, Zones, FaultOn, TurnTo, PowerLoss, PowerLossIn, PowerOn}
 use Rattle.zn_base.specs.Decimals.{number_in}
 use Rattle.zn_lines.specs.Grammar.{last_offset, last_zone, last_u32, who_named, root, line_of, reading_of}
-use Rattle.zn_lines.specs.LineTexts.{line_text}
+use Rattle.zn_lines.specs.LineTexts.{spaced, line_text}
 
 -- ---- lines
 
@@ -47,6 +48,34 @@ write_two = WriteTo 0 4096 (record { byte = 0x0a; count = 0 } ∷ record { byte 
 -- the greatest handle number and the greatest size
 abbrev pub truncate_last : Line
 truncate_last = TruncateTo 2047 last_offset
+
+-- one block of the byte 0x61 at the greatest offset, by the greatest handle number
+abbrev pub submit_last : Line
+submit_last = SubmitTo 2047 last_offset (record { byte = 0x61; count = 4096 } ∷ [])
+
+-- two blocks, of the bytes 0x61 and 0x62, at offset 8192
+abbrev pub submit_two : Line
+submit_two = SubmitTo 7 8192 (record { byte = 0x61; count = 4096 } ∷ record { byte = 0x62; count = 4096 } ∷ [])
+
+-- the zone 1 is cut to two blocks
+abbrev pub cut_one : ZoneNo × ℕ
+cut_one = (record { 0 = 1 }, 2)
+
+-- the greatest zone is cut to the greatest number of blocks
+abbrev pub cut_last : ZoneNo × ℕ
+cut_last = (record { 0 = last_zone }, last_u32)
+
+-- a loss fills in the byte 0xee, and cuts two zones
+abbrev pub lose_two : Line
+lose_two = PowerLoss (Some 0xee) (cut_one ∷ cut_last ∷ [])
+
+-- the power goes after a reset of the zone 2; the byte 0x0f is filled in, and one zone is cut
+abbrev pub lose_in_reset : Line
+lose_in_reset = PowerLossIn 2 Resetting true (Some 0x0f) (cut_one ∷ [])
+
+-- a loss with so many cuts, all of them the same
+abbrev pub many_cuts : ℕ → List ℕ
+many_cuts n = spaced (codes "power-loss" ∷ replicate n (codes "1:2"))
 
 -- lines that are read
 pub record LinesRead : Type 0 where
@@ -96,6 +125,30 @@ pub record FaultsRead : Type 0 where
   pub turn : line_of (codes "turn 1 ro") ≡ Ok (TurnTo 1 ReadOnly)
   pub turn_last : line_of (codes "turn 18446744073709551615 off") ≡ Ok (TurnTo last_zone Offline)
 
+-- requests: `complete` and `reap` have no other words
+pub record RequestsRead : Type 0 where
+  pub submit : line_of (codes "submit 7 8192 61*4096+62*4096") ≡ Ok submit_two
+  pub last : line_of (codes "submit 2047 18446744073709551615 61*4096") ≡ Ok submit_last
+  pub complete : line_of (codes "complete") ≡ Ok Complete
+  pub reap : line_of (codes "reap") ≡ Ok Reap
+
+-- A report of all zones, and losses and return of power. Whether the device has the zones, and may be cut so, is no matter
+-- of the grammar.
+pub record LossesRead : Type 0 where
+  pub zones : line_of (codes "zones") ≡ Ok Zones
+  pub plain : line_of (codes "power-loss") ≡ Ok (PowerLoss None [])
+  pub fill : line_of (codes "power-loss fill=00") ≡ Ok (PowerLoss (Some 0) [])
+  pub cut : line_of (codes "power-loss 1:2") ≡ Ok (PowerLoss None (cut_one ∷ []))
+  pub twice : line_of (codes "power-loss 1:2 1:2") ≡ Ok (PowerLoss None (cut_one ∷ cut_one ∷ []))
+  pub both : line_of (codes "power-loss fill=ee 1:2 18446744073709551615:4294967295") ≡ Ok lose_two
+  pub most : line_of (many_cuts 64) ≡ Ok (PowerLoss None (replicate 64 cut_one))
+  pub within : line_of (codes "power-loss-in 0 write") ≡ Ok (PowerLossIn 0 Writing false None [])
+  pub last : line_of (codes "power-loss-in 18446744073709551615 flush") ≡ Ok (PowerLossIn last_zone Flushing false None [])
+  pub done : line_of (codes "power-loss-in 2 reset done") ≡ Ok (PowerLossIn 2 Resetting true None [])
+  pub fill_within : line_of (codes "power-loss-in 2 read fill=9a") ≡ Ok (PowerLossIn 2 Reading false (Some 0x9a) [])
+  pub all : line_of (codes "power-loss-in 2 reset done fill=0f 1:2") ≡ Ok lose_in_reset
+  pub on : line_of (codes "power-on") ≡ Ok PowerOn
+
 -- the plain texts of lines
 pub record LinesWritten : Type 0 where
   pub format : line_text (Mkfs all_asked) ≡ codes "mkfs force label=data uuid=u features=aggr_cnv"
@@ -114,6 +167,15 @@ pub record LinesWritten : Type 0 where
   pub fault : line_text (FaultOn 1 Resetting None) ≡ codes "fault 1 reset"
   pub fault_part : line_text (FaultOn 1 Flushing (Some 0)) ≡ codes "fault 1 flush 0"
   pub turn : line_text (TurnTo 2 Offline) ≡ codes "turn 2 off"
+  pub submit : line_text submit_last ≡ codes "submit 2047 18446744073709551615 61*4096"
+  pub complete : line_text Complete ≡ codes "complete"
+  pub reap : line_text Reap ≡ codes "reap"
+  pub zones : line_text Zones ≡ codes "zones"
+  pub loss : line_text (PowerLoss None []) ≡ codes "power-loss"
+  pub loss_two : line_text lose_two ≡ codes "power-loss fill=ee 1:2 18446744073709551615:4294967295"
+  pub loss_within : line_text (PowerLossIn 0 Writing false None []) ≡ codes "power-loss-in 0 write"
+  pub loss_after : line_text lose_in_reset ≡ codes "power-loss-in 2 reset done fill=0f 1:2"
+  pub on : line_text PowerOn ≡ codes "power-on"
 
 -- ---- lines that are refused, each at the column of the first word that does not fit
 
@@ -187,6 +249,51 @@ pub record FaultsRefused : Type 0 where
   pub missing_condition : line_of (codes "turn 1") ≡ Err 7
   pub turned_to_good : line_of (codes "turn 1 good") ≡ Err 8
   pub word_behind_turn : line_of (codes "turn 1 ro off") ≡ Err 11
+
+-- requests: words that are missing, one too many, or not of their form
+pub record RequestsRefused : Type 0 where
+  pub missing_handle : line_of (codes "submit") ≡ Err 7
+  pub handle_too_large : line_of (codes "submit 2048 0 61*1") ≡ Err 8
+  pub missing_offset : line_of (codes "submit 0") ≡ Err 9
+  pub offset_too_large : line_of (codes "submit 0 18446744073709551616 61*1") ≡ Err 10
+  pub missing_data : line_of (codes "submit 0 0") ≡ Err 11
+  pub no_data : line_of (codes "submit 0 0 61") ≡ Err 12
+  pub word_behind_data : line_of (codes "submit 0 0 61*1 0") ≡ Err 17
+  pub word_behind_complete : line_of (codes "complete 0") ≡ Err 10
+  pub blank_behind_complete : line_of (codes "complete ") ≡ Err 10
+  pub word_behind_reap : line_of (codes "reap 0") ≡ Err 6
+  pub blank_behind_reap : line_of (codes "reap ") ≡ Err 6
+
+-- zones, and losses and return of power: words that are missing, in another order, twice, one too many, or not of their
+-- form
+pub record LossesRefused : Type 0 where
+  pub word_behind_zones : line_of (codes "zones 0") ≡ Err 7
+  pub blank_behind_zones : line_of (codes "zones ") ≡ Err 7
+  pub word_behind_on : line_of (codes "power-on 0") ≡ Err 10
+  pub blank_behind : line_of (codes "power-loss ") ≡ Err 12
+  pub fill_twice : line_of (codes "power-loss fill=ee fill=ee") ≡ Err 20
+  pub fill_behind_cut : line_of (codes "power-loss 1:2 fill=ee") ≡ Err 16
+  pub capital_fill : line_of (codes "power-loss fill=EE") ≡ Err 12
+  pub short_fill : line_of (codes "power-loss fill=e") ≡ Err 12
+  pub long_fill : line_of (codes "power-loss fill=eee") ≡ Err 12
+  pub empty_fill : line_of (codes "power-loss fill=") ≡ Err 12
+  pub done_without_a_command : line_of (codes "power-loss done") ≡ Err 12
+  pub zone_alone : line_of (codes "power-loss 1") ≡ Err 12
+  pub no_blocks : line_of (codes "power-loss 1:") ≡ Err 12
+  pub no_zone : line_of (codes "power-loss :2") ≡ Err 12
+  pub two_colons : line_of (codes "power-loss 1:2:3") ≡ Err 12
+  pub zone_too_large : line_of (codes "power-loss 18446744073709551616:0") ≡ Err 12
+  pub blocks_too_large : line_of (codes "power-loss 0:4294967296") ≡ Err 12
+  pub leading_zero : line_of (codes "power-loss 1:2 01:2") ≡ Err 16
+  pub two_blanks : line_of (codes "power-loss 1:2  1:2") ≡ Err 16
+  pub one_too_many : line_of (many_cuts 65) ≡ Err 268
+  pub missing_zone : line_of (codes "power-loss-in") ≡ Err 14
+  pub zone_too_large_within : line_of (codes "power-loss-in 18446744073709551616 read") ≡ Err 15
+  pub missing_kind : line_of (codes "power-loss-in 0") ≡ Err 16
+  pub no_kind : line_of (codes "power-loss-in 0 append") ≡ Err 17
+  pub done_behind_fill : line_of (codes "power-loss-in 0 reset fill=ee done") ≡ Err 31
+  pub done_twice : line_of (codes "power-loss-in 0 reset done done") ≡ Err 28
+  pub done_behind_cut : line_of (codes "power-loss-in 0 reset 1:2 done") ≡ Err 27
 
 -- faulty data of a write: the column is where the data begins, whichever part is at fault
 pub record DataRefused : Type 0 where

@@ -2,6 +2,7 @@
 ghost use Rattle.zn_lines.specs.LineLaws.{WrittenIsRead, ReadIsWritten, TextIsRead, ReadingIsLine};
 ghost use Rattle.zn_lines.specs.LineCases.{LinesRead, FormatsRead, UsersRead, FaultsRead, LinesWritten, VerbsRefused};
 ghost use Rattle.zn_lines.specs.LineCases.{WordsRefused, FormatsRefused, UsersRefused, FaultsRefused, DataRefused};
+ghost use Rattle.zn_lines.specs.LineCases.{RequestsRead, RequestsRefused, LossesRead, LossesRefused};
 ghost use Rattle.zn_lines.specs.LineCases.{CommentsRead, NumbersRead};
 
 /// What is a text of a line is read as that line.
@@ -45,6 +46,16 @@ pub fn faults_are_read()
     ensures { FaultsRead }
 {}
 
+/// Some lines of requests.
+pub fn requests_are_read()
+    ensures { RequestsRead }
+{}
+
+/// Some lines that report zones, and let the power go and come back.
+pub fn losses_are_read()
+    ensures { LossesRead }
+{}
+
 /// The plain texts of some lines.
 pub fn lines_are_written()
     ensures { LinesWritten }
@@ -73,6 +84,16 @@ pub fn users_are_refused()
 /// Where lines are refused that let a device fail, or turn zones.
 pub fn faults_are_refused()
     ensures { FaultsRefused }
+{}
+
+/// Where lines of requests are refused.
+pub fn requests_are_refused()
+    ensures { RequestsRefused }
+{}
+
+/// Where lines are refused that report zones, or let the power go or come back.
+pub fn losses_are_refused()
+    ensures { LossesRefused }
 {}
 
 /// Where lines are refused whose data does not fit.

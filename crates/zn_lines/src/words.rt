@@ -23,6 +23,13 @@ pub enum Verb {
     Chown,
     Fault,
     Turn,
+    Submit,
+    Complete,
+    Reap,
+    Zones,
+    PowerLoss,
+    PowerLossIn,
+    PowerOn,
 }
 
 /// A change of names or attributes, of which none is allowed.

@@ -10,8 +10,8 @@ use Rattle.zn_lines.specs.Lines.{Line}
 use Rattle.zn_lines.specs.Grammar.{reading_of}
 use Rattle.zn_lines.specs.Table.{Table}
 use Rattle.zn_lines.specs.Session.{line_step}
-use Rattle.zn_lines.specs.Transcript.{Transcript, stop, first_given, line_then, last_piece, transcript_at, OneLine}
-use Rattle.zn_run.specs.Endings.{last_line_now, out_of_memory, host_fault}
+use Rattle.zn_lines.specs.Transcript.{Transcript, stop, first_given, line_then, last_piece, transcript_at, OneLine, last_line}
+use Rattle.zn_run.specs.Endings.{out_of_memory, host_fault}
 use Rattle.zn_run.specs.Headline.{Closed, RanGiven, Ran}
 use Rattle.zn_run.specs.Progress.{IsNext, StoppedBy}
 use Rattle.zn_run.specs.States.{MachineState, State, state_of, Added}
@@ -84,7 +84,7 @@ stopped_last {step = step} {old = old} {new = new} {line = line} n goes_on one s
     }
 
 pub last_bad : {result : Status} {old : State} {line : List ℕ} {machine : MachineState} {sink sink' : SinkState} {column : ℕ} (n : ℕ) → old.machine.over ≡ false → OneLine line → 0 < length line → length line ≤ 65536
-    → Stepped (BadLine column) (reading_of line) old (state_of machine sink) → Closed result Script (last_line_now (is_bad n column)) sink sink' → Ran result End n line old (state_of machine sink')
+    → Stepped (BadLine column) (reading_of line) old (state_of machine sink) → Closed result Script (last_line (is_bad n column)) sink sink' → Ran result End n line old (state_of machine sink')
 last_bad {old = old} {line = line} {column = column} n goes_on one some fits s c =
     closes (comes_ended Script End (is_bad n column) (reached_here old n line goes_on) tt (λ givens. read_is givens old.machine.table n line (Err column) one some fits s.means.reads) s.means.unmoved) c
 
@@ -110,6 +110,6 @@ none_left {tail = tail} old n rest one fits is empty =
 
 -- the run ends before the rest
 pub ended_here : {result status : Status} {tail : Tail} {machine : MachineState} {sink sink' : SinkState} (n : ℕ) (rest : List ℕ) (by : Ending) → machine.over ≡ false → EndsBy status tail by
-    → ((givens : List (List ℕ)) → transcript_at givens tail machine.table n rest ≡ stop machine.table by) → Closed result status (last_line_now by) sink sink' → Ran result tail n rest (state_of machine sink) (state_of machine sink')
+    → ((givens : List (List ℕ)) → transcript_at givens tail machine.table n rest ≡ stop machine.table by) → Closed result status (last_line by) sink sink' → Ran result tail n rest (state_of machine sink) (state_of machine sink')
 ended_here {status = status} {tail = tail} {machine = machine} {sink = sink} n rest by goes_on ends is c =
     closes (comes_ended status tail by (reached_here (state_of machine sink) n rest goes_on) ends is (record { table = refl; breaks = refl; sink = refl })) c

@@ -23,8 +23,8 @@ unfolding reading_of
 reads_comment [] is = absurd (omega arith)
 reads_comment (b ∷ bytes) is = rw is refl
 
-reads_bad : reading_of (codes "x") ≡ Err 1
-unfolding reading_of line_of verb_of
+reads_bad : reading_of (codes "close") ≡ Err 6
+unfolding reading_of line_of verb_of close_line
 reads_bad = refl
 
 reads_close : reading_of (codes "close 0") ≡ Ok (Some (CloseFile 0))
@@ -67,8 +67,8 @@ pub passes_comment : {table : Table} {over : Bool} {breaks steps : ℕ} {sink : 
     → Stepped Done (reading_of line) (state_of (probe table over breaks steps) sink) (state_of (probe table over breaks (steps + 1)) sink)
 passes_comment line is goes_on = passes line (reads_comment line is) goes_on
 
-pub refuses : {table : Table} {over : Bool} {breaks steps : ℕ} {sink : SinkState} (line : List ℕ) → line ≡ codes "x" → over ≡ false
-    → Stepped (BadLine 1) (reading_of line) (state_of (probe table over breaks steps) sink) (state_of (probe table over breaks (steps + 1)) sink)
+pub refuses : {table : Table} {over : Bool} {breaks steps : ℕ} {sink : SinkState} (line : List ℕ) → line ≡ codes "close" → over ≡ false
+    → Stepped (BadLine 6) (reading_of line) (state_of (probe table over breaks steps) sink) (state_of (probe table over breaks (steps + 1)) sink)
 refuses line is goes_on = record {
   means = record { reads = ap reading_of is ∙ reads_bad; unmoved = record { table = refl; breaks = refl; sink = refl }; goes_on = goes_on };
   counted = refl;

@@ -7,9 +7,9 @@ use Rattle.zn_lines.specs.declared.limits.TheConstants.{SCRIPT_LIMIT}
 use Rattle.zn_lines.specs.declared.runs.Tail.{Tail}
 use Rattle.zn_lines.specs.declared.runs.Tail.TheVariants.{End, Fault as fault_tail, Over, More}
 use Rattle.zn_lines.specs.declared.runs.Ending.{Ending}
-use Rattle.zn_lines.specs.Transcript.{Transcript, stop, with_text, transcript_at}
+use Rattle.zn_lines.specs.Transcript.{Transcript, stop, with_text, transcript_at, last_line}
 use Rattle.zn_lines.proofs.ToldLines.{transcript_same}
-use Rattle.zn_run.specs.Endings.{last_line_now, out_of_memory, host_fault}
+use Rattle.zn_run.specs.Endings.{out_of_memory, host_fault}
 use Rattle.zn_run.specs.Headline.{Closes, Closed, RanWhole, RanGiven, RanBroken, ComesTo, ToLast, RanTo, RanCut, in_reply, in_last, Ran, RunsBy}
 use Rattle.zn_run.specs.Progress.{CarriedOut, Reached, StoppedBy, IsEnded, IsBroken}
 use Rattle.zn_run.specs.States.{MachineState, State, state_of, Added}
@@ -144,7 +144,7 @@ ended_is tail r by is =
     transcript_reached tail [] r ∙ ap (with_text r.lines.out) is ∙ ap T (append-nil r.lines.out)
 
 pub comes_ended : (status : Status) (tail : Tail) {first : ℕ} {script : List ℕ} {old new : State} (by : Ending) (r : Reached old first script) → EndsBy status tail by
-    → ((givens : List (List ℕ)) → transcript_at givens tail r.state.machine.table r.number r.rest ≡ stop r.state.machine.table by) → Unmoved r.state new → ComesTo status tail first script (last_line_now by) old new
+    → ((givens : List (List ℕ)) → transcript_at givens tail r.state.machine.table r.number r.rest ≡ stop r.state.machine.table by) → Unmoved r.state new → ComesTo status tail first script (last_line by) old new
 comes_ended status tail {old = old} by r ends is unmoved =
     let S : SinkState → Type 0 = λ s. Added r.lines.out old.sink s in
     comes_whole status
@@ -160,7 +160,7 @@ comes_ended status tail {old = old} by r ends is unmoved =
 
 -- a run that one of the lines that a newline ends ended
 pub ran_ended : {result : Status} {tail : Tail} {first : ℕ} {script : List ℕ} {old : State} {machine : MachineState} {sink sink' : SinkState} {by : Ending} → IsEnded by tail first script old (state_of machine sink)
-    → Closed result Script (last_line_now by) sink sink' → Ran result tail first script old (state_of machine sink')
+    → Closed result Script (last_line by) sink sink' → Ran result tail first script old (state_of machine sink')
 ran_ended {tail = tail} {by = by} h c = closes (comes_ended Script tail by h.reached h.is_fault h.ends h.unmoved) c
 
 -- a run that a failure of the host ended in a line that a newline ends

@@ -14,8 +14,8 @@ use Rattle.zn_lines.specs.declared.runs.Ending.TheVariants.{Finished, BadLine, L
 use Rattle.zn_lines.specs.Lines.{Line}
 use Rattle.zn_lines.specs.Memory.{takes_itself}
 use Rattle.zn_lines.specs.Table.{Table}
-use Rattle.zn_lines.specs.Transcript.{Transcript, transcript_from, pieces, transcript_at, transcript, transcript_of, stop}
-use Rattle.zn_run.specs.Endings.{last_line_now, whole_text_now, out_of_memory}
+use Rattle.zn_lines.specs.Transcript.{Transcript, transcript_from, pieces, transcript_at, transcript, transcript_of, stop, last_line, whole_text}
+use Rattle.zn_run.specs.Endings.{out_of_memory}
 use Rattle.zn_run.specs.Headline.{Closes, RanGiven, ToLast, RanTo, RanCut, in_reply, in_last, Unrun, Ran, RunsBy}
 use Rattle.zn_run.specs.Laws.{WholeLinesAlone, IsKept, StarvedIn, LacksMemory, RunCauses, StatusesHaveCauses, IsFaultless, FaultlessRuns, DoneRuns, RanAll, WholeRuns}
 use Rattle.zn_run.specs.Progress.{IsNext}
@@ -201,7 +201,7 @@ ran_done {tail = tail} {script = script} {bytes = bytes} {old = old} {new = new}
     let m = h.means.to.comes.whole in
     let t : Transcript = transcript givens tail old.machine.table bytes in
     let same : t ≡ transcript givens End old.machine.table script = ap (λ tail. transcript givens tail old.machine.table bytes) m.ends.0 ∙ ap (transcript givens End old.machine.table) (sym all) in
-    let none : h.means.to.line ≡ [] = m.last ∙ ap last_line_now m.ends.1 in
+    let none : h.means.to.line ≡ [] = m.last ∙ ap last_line m.ends.1 in
     let A : List ℕ → Type 0 = λ text. Added text old.sink new.sink in (
       givens,
       h.means.to.comes.told,
@@ -244,7 +244,7 @@ ran_all {status = status} {tail = tail} {script = script} {bytes = bytes} {old =
     record {
       ends = status_by status tail t.ending r.whole.ends ∙ ap (λ (t : Transcript). status_of t.ending) given;
       table = r.whole.table ∙ ap (λ (t : Transcript). t.table) given;
-      text = subst A (ap (λ text. t.text ++ text) r.whole.last ∙ ap whole_text_now given) (added_then r.whole.replies more);
+      text = subst A (ap (λ text. t.text ++ text) r.whole.last ∙ ap whole_text given) (added_then r.whole.replies more);
     }
 
 abbrev Whole : List ℕ → Status → Run → Run → Type 0

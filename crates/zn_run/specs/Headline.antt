@@ -4,8 +4,8 @@ use Rattle.zn_base.specs.States.{SinkState}
 use Rattle.zn_lines.specs.declared.limits.TheConstants.{SCRIPT_LIMIT}
 use Rattle.zn_lines.specs.declared.runs.Tail.{Tail}
 use Rattle.zn_lines.specs.declared.runs.Tail.TheVariants.{End, Fault as fault_tail, Over, More}
-use Rattle.zn_lines.specs.Transcript.{Transcript, transcript_at}
-use Rattle.zn_run.specs.Endings.{last_line_now, out_of_memory, host_fault}
+use Rattle.zn_lines.specs.Transcript.{Transcript, transcript_at, last_line}
+use Rattle.zn_run.specs.Endings.{out_of_memory, host_fault}
 use Rattle.zn_run.specs.Progress.{StoppedBy}
 use Rattle.zn_run.specs.Script.{Taken}
 use Rattle.zn_run.specs.States.{State, Run, state_of, driven, Added, CutOff}
@@ -30,7 +30,7 @@ pub record Closed (result status : Status) (line : List ℕ) (old new : SinkStat
 -- The replies of this transcript are written, and the table is its own.
 pub record RanWhole (status : Status) (tail : Tail) (t : Transcript) (line : List ℕ) (old new : State) : Type 0 where
   pub ends : EndsBy status tail t.ending
-  pub last : line ≡ last_line_now t.ending
+  pub last : line ≡ last_line t.ending
   pub table : new.machine.table ≡ t.table
   pub breaks : new.machine.breaks ≡ old.machine.breaks
   pub replies : Added t.text old.sink new.sink

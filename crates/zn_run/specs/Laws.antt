@@ -7,8 +7,8 @@ use Rattle.zn_lines.specs.declared.runs.Tail.TheVariants.{End, More}
 use Rattle.zn_lines.specs.Lines.{Line}
 use Rattle.zn_lines.specs.Memory.{takes_itself}
 use Rattle.zn_lines.specs.Table.{Table}
-use Rattle.zn_lines.specs.Transcript.{transcript, transcript_at, transcript_of, IsDecided}
-use Rattle.zn_run.specs.Endings.{whole_text_now, out_of_memory}
+use Rattle.zn_lines.specs.Transcript.{transcript, transcript_at, transcript_of, IsDecided, whole_text}
+use Rattle.zn_run.specs.Endings.{out_of_memory}
 use Rattle.zn_run.specs.Headline.{Headline, Unrun}
 use Rattle.zn_run.specs.Progress.{WholeLines, Reached, IsNext}
 use Rattle.zn_run.specs.Script.{Taken}
@@ -97,7 +97,7 @@ DoneRuns =
 pub record RanAll (script : List ℕ) (status : Status) (old new : State) : Type 0 where
   pub ends : status ≡ status_of (transcript_of old.machine.table script).ending
   pub table : new.machine.table ≡ (transcript_of old.machine.table script).table
-  pub text : Added (whole_text_now (transcript_of old.machine.table script)) old.sink new.sink
+  pub text : Added (whole_text (transcript_of old.machine.table script)) old.sink new.sink
 
 -- Where the source and the device tell their bytes, a run without faults did all that its script is due, unless there was
 -- no memory.

@@ -1,7 +1,8 @@
 // The last line of a run.
 ghost use Rattle.std.specs.Prelude.{◌≡◌, is_ok, if◌then◌else◌};
 ghost use Rattle.zn_base.specs.States.{Writes};
-ghost use Rattle.zn_run.specs.Endings.{last_line_now, out_of_memory, host_fault};
+ghost use Rattle.zn_lines.specs.Transcript.{last_line};
+ghost use Rattle.zn_run.specs.Endings.{out_of_memory, host_fault};
 ghost use Rattle.zn_run.specs.Headline.{Closed};
 
 use crate::status::Status;
@@ -10,15 +11,17 @@ use zn_lines::Ending;
 
 /// Writes the last line of a run that ends so.
 fn write_last_line<K: Sink>(sink: &mut K, ending: Ending) -> Result<(), WriteFault>
-    ensures { Writes result (last_line_now ending) (K.state sink.old) (K.state sink.new) }
+    ensures { Writes result (last_line ending) (K.state sink.old) (K.state sink.new) }
 {
     match ending {
         Ending::Finished | Ending::Unread => write_parts(sink, &[]),
-        Ending::BadLine(number, _) => write_parts(
+        Ending::BadLine(number, column) => write_parts(
             sink,
             &[
-                Part::Text(b"not-built "),
+                Part::Text(b"script-error "),
                 Part::Number(number),
+                Part::Text(b" "),
+                Part::Number(column as u64),
                 Part::Text(b"\n"),
             ],
         ),
@@ -68,14 +71,14 @@ pub fn end_starved<K: Sink>(sink: &mut K) -> Status
 
 /// Ends a run by its script.
 pub fn end_by_script<K: Sink>(sink: &mut K, ending: Ending) -> Status
-    ensures { Closed result Status.Script (last_line_now ending) (K.state sink.old) (K.state sink.new) }
+    ensures { Closed result Status.Script (last_line ending) (K.state sink.old) (K.state sink.new) }
 {
     status_after(write_last_line(sink, ending), Status::Script)
 }
 
 /// Ends a run whose script could not be read to its end.
 pub fn end_unread<K: Sink>(sink: &mut K) -> Status
-    ensures { Closed result Status.ReadFault (last_line_now Ending.ReadFailed) (K.state sink.old) (K.state sink.new) }
+    ensures { Closed result Status.ReadFault (last_line Ending.ReadFailed) (K.state sink.old) (K.state sink.new) }
 {
     status_after(write_last_line(sink, Ending::ReadFailed), Status::ReadFault)
 }

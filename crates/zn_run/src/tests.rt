@@ -38,8 +38,8 @@ impl<R: Abort> Machine for Probe<R> {
         if line[0] == b'#' {
             return Step::Done;
         }
-        if line == b"x".as_slice() {
-            return Step::BadLine(1);
+        if line == b"close".as_slice() {
+            return Step::BadLine(6);
         }
         if line == b"close 0".as_slice() {
             return match write_all(sink, b"error not-mounted\n") {
@@ -130,11 +130,11 @@ fn scripts_are_answered(rt: HostRuntime) -> Result<(), Fail> {
             Status::Done,
             "error not-mounted\nerror not-mounted\n",
         ),
-        ends("x", Status::Script, "not-built 1\n"),
+        ends("close", Status::Script, "script-error 1 6\n"),
         ends(
-            "close 0\nx\nclose 0\n",
+            "close 0\nclose\nclose 0\n",
             Status::Script,
-            "error not-mounted\nnot-built 2\n",
+            "error not-mounted\nscript-error 2 6\n",
         ),
         ends("size 0", Status::HostFault, "host-fault 1\n"),
         ends(
@@ -144,7 +144,7 @@ fn scripts_are_answered(rt: HostRuntime) -> Result<(), Fail> {
         ),
         ends("size 1", Status::Memory, "out-of-memory\n"),
         ends(
-            "close 0\nsize 1\nx\n",
+            "close 0\nsize 1\nclose\n",
             Status::Memory,
             "error not-mounted\nout-of-memory\n",
         ),
@@ -178,8 +178,8 @@ fn faults_end_runs(rt: HostRuntime) -> Result<(), Fail> {
         },
         Case {
             room: 20,
-            written: "error not-mounted\nno",
-            ..ends("close 0\nx", Status::WriteFault, "")
+            written: "error not-mounted\nsc",
+            ..ends("close 0\nclose", Status::WriteFault, "")
         },
         Case {
             room: 20,
@@ -239,9 +239,9 @@ fn a_long_line_is_told(rt: HostRuntime) -> Result<(), Fail> {
     is_told(
         rt,
         alloc,
-        comments(alloc, 1, 65536, b"x\n")?,
+        comments(alloc, 1, 65536, b"close\n")?,
         Status::Script,
-        "not-built 2\n",
+        "script-error 2 6\n",
     )?;
     is_told(
         rt,

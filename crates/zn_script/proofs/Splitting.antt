@@ -19,7 +19,7 @@ some_place at len n is = grind (arith, nat_tests)
 pub no_place : (at len : ℕ) → cond (nat_lt at len) (Some at) None ≡ None → len ≤ at
 no_place at len is = grind (arith, nat_tests)
 
-words_in : (line : List ℕ) (at : ℕ) → at ≤ length line → (left_at line at).words ≡ slice_split is_blank (drop at line)
+pub words_in : (line : List ℕ) (at : ℕ) → at ≤ length line → (left_at line at).words ≡ slice_split is_blank (drop at line)
 unfolding left_at
 words_in line at within = ap (λ b. cond b (slice_split is_blank (drop at line)) []) (le-leb _ _ within)
 

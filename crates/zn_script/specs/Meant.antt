@@ -4,16 +4,17 @@ use Rattle.zn_base.specs.Runs.{Run}
 use Rattle.zn_lines.specs.Grammar.{data_of}
 use Rattle.zn_lines.specs.Lines as lines
 use Rattle.std.specs.Option.{option_copied}
+use Rattle.zn_script.specs.Cuts.{cuts_meant}
 use Rattle.zn_script.specs.Data.{CallFits}
 use Rattle.zn_script.specs.Items.{format_meant}
 use Rattle.zn_script.specs.declared.Line.{Line}
-use Rattle.zn_script.specs.declared.Line.TheVariants.{Mkfs as MkfsLine, Mount as MountLine, Umount as UmountLine, Open as OpenLine, Close as CloseLine, Size as SizeLine, Read as ReadLine, Write as WriteLine, Truncate as TruncateLine, Sync as SyncLine, Stat as StatLine, List as ListLine, Attr as AttrLine, Change as ChangeLine, Fault as FaultLine, Turn as TurnLine}
+use Rattle.zn_script.specs.declared.Line.TheVariants.{Mkfs as MkfsLine, Mount as MountLine, Umount as UmountLine, Open as OpenLine, Close as CloseLine, Size as SizeLine, Read as ReadLine, Write as WriteLine, Truncate as TruncateLine, Sync as SyncLine, Stat as StatLine, List as ListLine, Attr as AttrLine, Change as ChangeLine, Fault as FaultLine, Turn as TurnLine, Submit as SubmitLine, Complete as CompleteLine, Reap as ReapLine, Zones as ZonesLine, PowerLoss as PowerLossLine, PowerLossIn as PowerLossInLine, PowerOn as PowerOnLine}
 
 -- the runs that a word of data means
 abbrev pub runs_meant : List ℕ → List Run
 runs_meant word = unwrap_or (data_of word) []
 
--- the line as the model has it; data is the runs that it means
+-- the line as the model has it; data is the runs that it means, and words of cuts are these cuts
 abbrev pub line_meant : Line → lines.Line
 line_meant (MkfsLine words) = lines.Mkfs (format_meant words)
 line_meant (MountLine text) = lines.Mount (option_copied text)
@@ -31,6 +32,13 @@ line_meant AttrLine = lines.Attributes
 line_meant (ChangeLine change) = lines.Changes change
 line_meant (FaultLine zone command keep) = lines.FaultOn zone command keep
 line_meant (TurnLine zone to) = lines.TurnTo zone to
+line_meant (SubmitLine number offset word) = lines.SubmitTo number offset (runs_meant word.now)
+line_meant CompleteLine = lines.Complete
+line_meant ReapLine = lines.Reap
+line_meant ZonesLine = lines.Zones
+line_meant (PowerLossLine fill words) = lines.PowerLoss fill (cuts_meant words.now)
+line_meant (PowerLossInLine zone command carried_out fill words) = lines.PowerLossIn zone command carried_out fill (cuts_meant words.now)
+line_meant PowerOnLine = lines.PowerOn
 
 -- a line, or none where it has no reply
 abbrev pub reading_meant : Option Line → Option lines.Line

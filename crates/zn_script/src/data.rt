@@ -1,15 +1,17 @@
 // Words that stand for data: parts `HH*C`, joined by plus signs.
-ghost use Rattle.std.specs.Prelude.{◌≡◌, ◌≤◌, ◌<◌, length, take, position};
-ghost use Rattle.std.specs.Prelude.{IfOk, IfSome, IsSome, MatchOption, if◌then◌else◌};
+ghost use Rattle.std.specs.Prelude.{◌≡◌, ◌≤◌, ◌<◌, ◌+◌, ◌-◌, ◌*◌, ◌&&◌, ◌++◌, length, take, replicate};
+ghost use Rattle.std.specs.Prelude.{IfOk, IfSome, IsSome, MatchOption, nat_le, if◌then◌else◌};
+ghost use Rattle.std.specs.List.{position_or_len};
+ghost use Rattle.zn_base.specs.Decimals.{is_digit, number_in};
 ghost use Rattle.zn_lines.specs.Lines.{bytes_of};
 ghost use Rattle.zn_lines.specs.Grammar.{is_plus, is_hex, hex_worth, part_of, data_of};
 ghost use Rattle.zn_lines.specs.Words.{next};
 ghost use Rattle.zn_script.specs.Gives.{Gives};
 ghost use Rattle.zn_script.specs.Places.{left_at, IsPlaceIn};
 ghost use Rattle.zn_script.specs.Meant.{runs_meant};
-ghost use Rattle.zn_script.specs.Data.{run_meant, PartFits, PartCounted, PartRefused, PartPut, HasLength};
+ghost use Rattle.zn_script.specs.Data.{run_meant, first_part, HasLength};
 
-use crate::words::{number_in, word_end};
+use crate::words::word_end;
 use zn_model::MOST_BYTES;
 
 /// A byte so many times over.
@@ -19,16 +21,8 @@ struct Part {
     count: u32,
 }
 
-/// The place of the first plus sign.
-fn plus_at(bytes: &[u8]) -> Option<usize>
-    ensures place { result ≡ position is_plus bytes.now }
-    ensures within { IfSome result (λ i. i < length bytes.now) }
-{
-    bytes.iter().position(|b| *b == b'+')
-}
-
 /// What a hexadecimal digit in lower case is worth.
-fn hex_worth(byte: u8) -> Option<u8>
+pub fn hex_worth(byte: u8) -> Option<u8>
     ensures value { result ≡ (if is_hex byte then Some (hex_worth byte) else None) }
     ensures small { IfSome result (λ n. n < 16) }
 {
@@ -39,63 +33,104 @@ fn hex_worth(byte: u8) -> Option<u8>
     }
 }
 
-/// The part that a word is.
-#[tactic(auto, unfolding(zn_lines::specs::Grammar::part_of))]
-fn parse_part(word: &[u8]) -> Option<Part>
-    ensures value { MatchOption result (part_of word.now ≡ None) (λ p. part_of word.now ≡ Some (run_meant p)) }
-    ensures small { IfSome result (λ p. p.count ≤ MOST_BYTES) }
+/// The count with one more digit behind it, if that is one and the count is then within the limit.
+fn with_digit(count: u32, byte: u8) -> Option<u32>
+    requires { count ≤ MOST_BYTES }
+    ensures value { let longer = count * 10 + (byte - 48) in
+        result ≡ (if is_digit byte && nat_le longer MOST_BYTES then Some longer else None) }
+    ensures small { IfSome result (λ n. n ≤ MOST_BYTES) }
 {
-    match word {
+    if !byte.is_ascii_digit() {
+        return None;
+    }
+    let longer = count * 10 + u32::from(byte - b'0');
+    (longer <= MOST_BYTES).then_some(longer)
+}
+
+/// The count at the front of some bytes, and the place of the plus sign behind it, or of their end. Each byte is
+/// looked at once.
+fn count_in(bytes: &[u8]) -> Option<(u32, usize)>
+    ensures value { MatchOption result
+        (number_in MOST_BYTES (first_part bytes.now) ≡ None)
+        (λ x. number_in MOST_BYTES (first_part bytes.now) ≡ Some x.0) }
+    ensures place { IfSome result (λ x. x.1 ≡ position_or_len is_plus bytes.now) }
+    ensures within { IfSome result (λ x. x.1 ≤ length bytes.now) }
+    ensures small { IfSome result (λ x. x.0 ≤ MOST_BYTES) }
+{
+    let (first, rest) = bytes.split_first()?;
+    let mut count = with_digit(0, *first)?;
+    for (i, &byte) in rest.iter().enumerate() {
+        if byte == b'+' {
+            return Some((count, i + 1));
+        }
+        if count == 0 {
+            return None;
+        }
+        count = with_digit(count, byte)?;
+    }
+    Some((count, bytes.len()))
+}
+
+/// The part at the front of some bytes, and the place of the plus sign behind it, or of their end. Each byte is
+/// looked at once.
+fn part_in(bytes: &[u8]) -> Option<(Part, usize)>
+    ensures value { MatchOption result
+        (part_of (first_part bytes.now) ≡ None)
+        (λ x. part_of (first_part bytes.now) ≡ Some (run_meant x.0)) }
+    ensures place { IfSome result (λ x. x.1 ≡ position_or_len is_plus bytes.now) }
+    ensures within { IfSome result (λ x. x.1 ≤ length bytes.now) }
+    ensures small { IfSome result (λ x. x.0.count ≤ MOST_BYTES) }
+{
+    match bytes {
         [high, low, b'*', digits @ ..] => {
             let high = hex_worth(*high)?;
             let low = hex_worth(*low)?;
-            let count = number_in(digits, MOST_BYTES as u64)? as u32;
+            let (count, end) = count_in(digits)?;
             let byte = high * 16 + low;
-            Some(Part { byte, count })
+            Some((Part { byte, count }, end + 3))
         }
         _ => None,
     }
 }
 
-/// The bytes of one part more, behind some: all counts together are limited.
-fn with_part(word: &[u8], total: u32) -> Option<u32>
-    requires { total ≤ MOST_BYTES }
-    ensures value { MatchOption result (PartRefused word.now total) (PartCounted word.now total) }
-    ensures small { IfSome result (λ n. n ≤ MOST_BYTES) }
+/// How many bytes there are with one part more: all counts together are limited.
+fn with_part(total: u32, part: Part) -> Option<u32>
+    requires total { total ≤ MOST_BYTES }
+    requires part { part.count ≤ MOST_BYTES }
+    ensures { MatchOption result
+        (MOST_BYTES < total + part.count)
+        (λ more. (more ≡ total + part.count) × (more ≤ MOST_BYTES)) }
 {
-    let part = parse_part(word)?;
     let more = total + part.count;
     if more <= MOST_BYTES { Some(more) } else { None }
 }
 
-/// How many bytes a word of data stands for, if it is one.
+/// How many bytes a word of data stands for, if it is one. Each byte of the word is looked at once.
 pub fn data_len(word: &[u8]) -> Option<u32>
     ensures value { MatchOption result (data_of word.now ≡ None) (λ n. HasLength word.now n) }
     ensures small { IfSome result (λ n. n ≤ MOST_BYTES) }
 {
     let mut rest = word;
     let mut total = 0u32;
-    while let Some(len) = plus_at(rest) {
-        total = with_part(&rest[..len], total)?;
-        rest = &rest[len + 1..];
+    'parts: loop {
+        let (part, end) = part_in(rest)?;
+        total = with_part(total, part)?;
+        if end == rest.len() {
+            return Some(total);
+        }
+        rest = &rest[end + 1..];
     }
-    with_part(rest, total)
 }
 
 /// Puts the bytes of one part behind those that are there, and answers where they end.
-fn expand_part(word: &[u8], out: &mut [u8], at: usize) -> usize
-    requires part { PartFits word.now at }
-    requires room { MOST_BYTES ≤ length out.old }
-    ensures { PartPut word.now at result out.old out.new }
+fn put_part(part: Part, out: &mut [u8], at: usize) -> usize
+    requires { at + part.count ≤ length out.old }
+    ensures end { result ≡ at + part.count }
+    ensures put { take result out.new ≡ take at out.old ++ replicate part.count part.byte }
 {
-    match parse_part(word) {
-        None => at,
-        Some(part) => {
-            let end = at + part.count as usize;
-            out[at..end].fill(part.byte);
-            end
-        }
-    }
+    let end = at + part.count as usize;
+    out[at..end].fill(part.byte);
+    end
 }
 
 /// Puts the bytes that a word of data stands for in the front of `out`, and answers how many they are.
@@ -108,14 +143,20 @@ pub fn expand(word: &[u8], out: &mut [u8]) -> usize
 {
     let mut rest = word;
     let mut at = 0usize;
-    while let Some(len) = plus_at(rest) {
-        at = expand_part(&rest[..len], out, at);
-        rest = &rest[len + 1..];
+    'parts: loop {
+        let Some((part, end)) = part_in(rest) else {
+            return at;
+        };
+        at = put_part(part, out, at);
+        if end == rest.len() {
+            return at;
+        }
+        rest = &rest[end + 1..];
     }
-    expand_part(rest, out, at)
 }
 
-/// The data at a place, and the place of the word after it.
+/// The data at a place, and the place of the word after it. Each byte is looked at twice: for the word's end, and as
+/// part of the data.
 pub fn data_at(line: &[u8], at: usize) -> Result<(&[u8], usize), u32>
     requires { IsPlaceIn line.now at }
     ensures gives { Gives (λ x. (runs_meant x.0.now, left_at line.now x.1)) result

@@ -6,6 +6,8 @@ ghost use Rattle.zn_lines.specs.Grammar.{mkfs_line, mount_line, umount_line};
 ghost use Rattle.zn_lines.specs.Grammar.{open_line, close_line, size_line, read_line, write_line};
 ghost use Rattle.zn_lines.specs.Grammar.{truncate_line, sync_line, stat_line, list_line, attr_line};
 ghost use Rattle.zn_lines.specs.Grammar.{path_change, rename_line, chmod_line, chown_line, fault_line, turn_line};
+ghost use Rattle.zn_lines.specs.Grammar.{submit_line, complete_line, reap_line, zones_line};
+ghost use Rattle.zn_lines.specs.Grammar.{power_loss_line, power_loss_in_line, power_on_line};
 ghost use Rattle.zn_lines.specs.Grammar.{who_named, line_with, line_of, reading_of};
 ghost use Rattle.zn_script.specs.Data.{CallFits};
 ghost use Rattle.zn_script.specs.Gives.{Gives};
@@ -15,6 +17,7 @@ ghost use Rattle.zn_script.specs.Places.{left_at, IsPlaceIn};
 use crate::Line;
 use crate::data::data_at;
 use crate::items::items_at;
+use crate::losses::{cuts_at, done_at, fill_at};
 use crate::words::{
     kind_at, mode_at, number_at, optional_number_at, options_at, path_at, small_number_at, user_at,
     verb_of, word_end, worse_at,
@@ -235,6 +238,72 @@ fn turn_line(line: &[u8], at: usize) -> Result<Line<'_>, u32>
     no_more(line, at, Line::Turn(zone, to))
 }
 
+#[tactic(auto, unfolding(zn_lines::specs::Grammar::submit_line))]
+fn submit_line(line: &[u8], at: usize) -> Result<Line<'_>, u32>
+    requires { IsPlaceIn line.now at }
+    ensures { GivesLine result (submit_line (left_at line.now at)) }
+{
+    let (number, at) = small_number_at(line, at, LAST_NUMBER)?;
+    let (offset, at) = number_at(line, at, u64::MAX)?;
+    let (data, at) = data_at(line, at)?;
+    no_more(line, at, Line::Submit(number, offset, data))
+}
+
+#[tactic(auto, unfolding(zn_lines::specs::Grammar::complete_line))]
+fn complete_line(line: &[u8], at: usize) -> Result<Line<'_>, u32>
+    requires { IsPlaceIn line.now at }
+    ensures { GivesLine result (complete_line (left_at line.now at)) }
+{
+    no_more(line, at, Line::Complete)
+}
+
+#[tactic(auto, unfolding(zn_lines::specs::Grammar::reap_line))]
+fn reap_line(line: &[u8], at: usize) -> Result<Line<'_>, u32>
+    requires { IsPlaceIn line.now at }
+    ensures { GivesLine result (reap_line (left_at line.now at)) }
+{
+    no_more(line, at, Line::Reap)
+}
+
+#[tactic(auto, unfolding(zn_lines::specs::Grammar::zones_line))]
+fn zones_line(line: &[u8], at: usize) -> Result<Line<'_>, u32>
+    requires { IsPlaceIn line.now at }
+    ensures { GivesLine result (zones_line (left_at line.now at)) }
+{
+    no_more(line, at, Line::Zones)
+}
+
+#[tactic(auto, unfolding(zn_lines::specs::Grammar::power_loss_line))]
+fn power_loss_line(line: &[u8], at: usize) -> Result<Line<'_>, u32>
+    requires { IsPlaceIn line.now at }
+    ensures { GivesLine result (power_loss_line (left_at line.now at)) }
+{
+    let (fill, at) = fill_at(line, at);
+    let cuts = cuts_at(line, at)?;
+    Ok(Line::PowerLoss(fill, cuts))
+}
+
+#[tactic(auto, unfolding(zn_lines::specs::Grammar::power_loss_in_line))]
+fn power_loss_in_line(line: &[u8], at: usize) -> Result<Line<'_>, u32>
+    requires { IsPlaceIn line.now at }
+    ensures { GivesLine result (power_loss_in_line (left_at line.now at)) }
+{
+    let (zone, at) = number_at(line, at, u64::MAX)?;
+    let (command, at) = kind_at(line, at)?;
+    let (carried_out, at) = done_at(line, at);
+    let (fill, at) = fill_at(line, at);
+    let cuts = cuts_at(line, at)?;
+    Ok(Line::PowerLossIn(zone, command, carried_out, fill, cuts))
+}
+
+#[tactic(auto, unfolding(zn_lines::specs::Grammar::power_on_line))]
+fn power_on_line(line: &[u8], at: usize) -> Result<Line<'_>, u32>
+    requires { IsPlaceIn line.now at }
+    ensures { GivesLine result (power_on_line (left_at line.now at)) }
+{
+    no_more(line, at, Line::PowerOn)
+}
+
 /// The line with this verb whose other words begin at a place.
 fn line_with(verb: Verb, line: &[u8], at: usize) -> Result<Line<'_>, u32>
     requires { IsPlaceIn line.now at }
@@ -261,6 +330,13 @@ fn line_with(verb: Verb, line: &[u8], at: usize) -> Result<Line<'_>, u32>
         Verb::Chown => chown_line(line, at),
         Verb::Fault => fault_line(line, at),
         Verb::Turn => turn_line(line, at),
+        Verb::Submit => submit_line(line, at),
+        Verb::Complete => complete_line(line, at),
+        Verb::Reap => reap_line(line, at),
+        Verb::Zones => zones_line(line, at),
+        Verb::PowerLoss => power_loss_line(line, at),
+        Verb::PowerLossIn => power_loss_in_line(line, at),
+        Verb::PowerOn => power_on_line(line, at),
     }
 }
 

@@ -14,7 +14,7 @@ use zn_model::Mode;
 use zn_truth::{Command, Cond};
 
 /// The word of each verb.
-const VERBS: [(&str, Verb); 20] = [
+const VERBS: [(&str, Verb); 27] = [
     ("mkfs", Verb::Mkfs),
     ("mount", Verb::Mount),
     ("umount", Verb::Umount),
@@ -35,6 +35,13 @@ const VERBS: [(&str, Verb); 20] = [
     ("chown", Verb::Chown),
     ("fault", Verb::Fault),
     ("turn", Verb::Turn),
+    ("submit", Verb::Submit),
+    ("complete", Verb::Complete),
+    ("reap", Verb::Reap),
+    ("zones", Verb::Zones),
+    ("power-loss", Verb::PowerLoss),
+    ("power-loss-in", Verb::PowerLossIn),
+    ("power-on", Verb::PowerOn),
 ];
 
 /// The word of each mode.
@@ -187,7 +194,7 @@ pub fn options_at(line: &[u8], at: usize) -> (Option<&str>, usize)
 }
 
 /// What stands behind a key, where a word begins with it.
-fn after_key<'a>(word: &'a [u8], key: &[u8]) -> Option<&'a [u8]>
+pub fn after_key<'a>(word: &'a [u8], key: &[u8]) -> Option<&'a [u8]>
     ensures value { option_copied result ≡ after_key key.now word.now }
     ensures short { IfSome result (λ rest. length rest.now ≤ length word.now) }
 {
