@@ -3,9 +3,9 @@ use Rattle.std.specs.Prelude.{◌≡◌, ◌⊎◌, ℕ, List, Option, Some, Non
 use Rattle.zn_base.specs.States.{SourceState, SinkState}
 use Rattle.zn_base.specs.Told.{IsAtEnd}
 use Rattle.zn_lines.specs.Scratch.{scratch_table}
-use Rattle.zn_lines.specs.Transcript.{transcript_of}
+use Rattle.zn_lines.specs.Transcript.{transcript_of, whole_text}
 use Rattle.zn_lines.specs.declared.words.Scratch.{Scratch}
-use Rattle.zn_run.specs.Endings.{out_of_memory, whole_text_now}
+use Rattle.zn_run.specs.Endings.{out_of_memory}
 use Rattle.zn_run.specs.Headline.{Closed, Headline}
 use Rattle.zn_run.specs.Laws.{StarvedIn}
 use Rattle.zn_run.specs.States.{MachineState, Streams, HasRisen, Added, run_of}
@@ -82,7 +82,7 @@ pub record StatusCauses (asked : Option Scratch) (entropy : List ℕ) (result : 
 abbrev pub IsComplete : Scratch → List ℕ → List ℕ → Status → Streams → Streams → Type 0
 IsComplete s entropy script result old new =
     let t = transcript_of (scratch_table s entropy) script in
-    ((result ≡ status_of t.ending) × Added (whole_text_now t) old.sink new.sink)
+    ((result ≡ status_of t.ending) × Added (whole_text t) old.sink new.sink)
     ⊎ ((result ≡ Memory) × RanOut s entropy old new)
 
 -- Accepted words and a source that tells its script: where no read and no write fails, the run is complete.
