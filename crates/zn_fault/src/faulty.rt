@@ -1,25 +1,32 @@
-// A device with faults that a script asked for.
-ghost use Rattle.std.specs.Prelude.{◌≡◌, [], false, true, MatchOption, IfOk, IfErr};
+// A device with faults and losses of power that a script asked for.
+ghost use Rattle.std.specs.Prelude.{◌≡◌, ◌&&◌, [], None, false, true, is_err, MatchOption, IfOk, IfErr};
 ghost use Rattle.zn_truth.specs.World.{geometry_of, command_of_op};
 ghost use Rattle.zn_fault.specs.FaultState.{faulty_state, inner_state};
+ghost use Rattle.zn_fault.specs.Losses.{as_loss};
 ghost use Rattle.zn_fault.specs.Strikes.{Spares, Strikes};
 
+use crate::armed::Waiting;
+use crate::cuts::{are_bad_cuts, copied};
+use crate::inside::{lose_in_manage, lose_in_write};
+use crate::losing::{lose, lose_zones};
 use crate::pending::Pending;
-use crate::refused::is_bad_fault;
+use crate::refused::{is_bad_fault, is_done_or_not, is_misplaced};
 use crate::struck::{flush_in_part, write_in_part};
-use crate::turned::turn;
-use std::alloc::Global;
+use crate::turned::{harm_error, turn};
+use std::alloc::{AllocError, Global};
 use zn_device::{Harm, Injects, Zoned};
 use zn_truth::{
-    Command, Cond, DevError, FaultSpec, InjectError, Kind, Shape, Span, ZoneInfo, ZoneNo, ZoneOp,
+    Armed, Command, Cond, DevError, FaultSpec, InjectError, Kind, LossSpec, Shape, Span, ZoneInfo,
+    ZoneNo, ZoneOp,
 };
 
-/// A device with faults that a script asked for, over one that has none. Only `new` takes memory.
+/// A device with faults and losses of power that a script asked for, over one that has none. Only `new` takes memory.
 #[derive(Drop)]
 pub struct Faulty<D: Harm + Drop> {
     dev: D,
     powered: bool,
     pending: Pending,
+    armed: Waiting,
     faults: u64,
 }
 
@@ -63,18 +70,27 @@ fn command_of_op(op: ZoneOp) -> Command
     }
 }
 
+/// Room for all that may wait: none does.
+fn room(alloc: Global) -> Result<(Pending, Waiting), AllocError>
+    ensures { IfOk result (λ room. (room.0 ≡ []) × (room.1 ≡ None)) }
+{
+    Ok((Pending::new(alloc)?, Waiting::new(alloc)?))
+}
+
 impl<D: Harm + Drop> Faulty<D> {
-    /// The device around this one: with power, no faults that wait, and none counted. It is refused for want of memory
-    /// alone, and then the device is given back as it was.
+    /// The device around this one: with power, nothing that waits, and no faults counted. It is refused for want of
+    /// memory alone, and then the device is given back as it was.
     pub fn new(alloc: Global, dev: D) -> Result<Faulty<D>, FaultyFail<D>>
-        ensures made { IfOk result (λ f. ⟦<Faulty<D> as Zoned>⟧.state f ≡ faulty_state (D.state dev) true [] 0) }
+        ensures made { IfOk result
+            (λ f. ⟦<Faulty<D> as Zoned>⟧.state f ≡ faulty_state (D.state dev) true [] None 0) }
         ensures back { IfErr result (λ fail. fail.dev ≡ dev) }
     {
-        match Pending::new(alloc) {
-            Ok(pending) => Ok(Faulty {
+        match room(alloc) {
+            Ok((pending, armed)) => Ok(Faulty {
                 dev,
                 powered: true,
                 pending,
+                armed,
                 faults: 0,
             }),
             Err(_) => Err(FaultyFail { dev }),
@@ -105,9 +121,25 @@ fn strike(
     Some(fault)
 }
 
+/// The loss that waited is used up. The power is off, unless the device within broke or lacked memory.
+fn go_off(
+    powered: &mut bool,
+    armed: &mut Waiting,
+    reply: Result<(), DevError>,
+) -> Result<(), DevError>
+    ensures reply { result ≡ as_loss reply }
+    ensures powered { powered.new ≡ (powered.old && is_err reply) }
+    ensures used { armed.new ≡ None }
+{
+    armed.clear();
+    reply?;
+    *powered = false;
+    Err(DevError::PowerLost)
+}
+
 #[tactic(auto, unfolding(zn_truth::specs::World::geometry_of))]
 impl<D: Harm + Drop> Zoned for Faulty<D> {
-    ghost state = { λ f. faulty_state (D.Zoned.state f.dev) f.powered f.pending f.faults };
+    ghost state = { λ f. faulty_state (D.Zoned.state f.dev) f.powered f.pending f.armed f.faults };
 
     ghost is_sound = { λ f. D.Zoned.is_sound f.dev };
 
@@ -134,6 +166,10 @@ impl<D: Harm + Drop> Zoned for Faulty<D> {
             first: first.0,
             count: out.len() as u32,
         };
+        if let Some(armed) = self.armed.met(Command::Report, zones) {
+            let reply = lose_zones(&mut self.dev, &armed.loss);
+            return go_off(&mut self.powered, &mut self.armed, reply);
+        }
         match strike(&mut self.pending, &mut self.faults, Command::Report, zones) {
             None => self.dev.report(first, out),
             Some(_) => Err(DevError::Fault),
@@ -143,6 +179,10 @@ impl<D: Harm + Drop> Zoned for Faulty<D> {
     fn read(&mut self, z: ZoneNo, at: u32, out: &mut [u8]) -> Result<(), DevError> {
         if !self.powered {
             return Err(DevError::PowerLost);
+        }
+        if let Some(armed) = self.armed.met(Command::Read, one(z)) {
+            let reply = lose_zones(&mut self.dev, &armed.loss);
+            return go_off(&mut self.powered, &mut self.armed, reply);
         }
         match strike(&mut self.pending, &mut self.faults, Command::Read, one(z)) {
             None => self.dev.read(z, at, out),
@@ -154,6 +194,10 @@ impl<D: Harm + Drop> Zoned for Faulty<D> {
         if !self.powered {
             return Err(DevError::PowerLost);
         }
+        if let Some(armed) = self.armed.met(Command::Write, one(z)) {
+            let reply = lose_in_write(&mut self.dev, z, at, bytes, armed);
+            return go_off(&mut self.powered, &mut self.armed, reply);
+        }
         match strike(&mut self.pending, &mut self.faults, Command::Write, one(z)) {
             None => self.dev.write(z, at, bytes),
             Some(fault) => write_in_part(&mut self.dev, z, at, bytes, fault),
@@ -163,6 +207,10 @@ impl<D: Harm + Drop> Zoned for Faulty<D> {
     fn manage(&mut self, z: ZoneNo, op: ZoneOp) -> Result<(), DevError> {
         if !self.powered {
             return Err(DevError::PowerLost);
+        }
+        if let Some(armed) = self.armed.met(command_of_op(op), one(z)) {
+            let reply = lose_in_manage(&mut self.dev, z, op, armed);
+            return go_off(&mut self.powered, &mut self.armed, reply);
         }
         match strike(
             &mut self.pending,
@@ -178,6 +226,10 @@ impl<D: Harm + Drop> Zoned for Faulty<D> {
     fn flush(&mut self) -> Result<(), DevError> {
         if !self.powered {
             return Err(DevError::PowerLost);
+        }
+        if let Some(armed) = self.armed.met(Command::Flush, every()) {
+            let reply = lose_zones(&mut self.dev, &armed.loss);
+            return go_off(&mut self.powered, &mut self.armed, reply);
         }
         match strike(&mut self.pending, &mut self.faults, Command::Flush, every()) {
             None => self.dev.flush(),
@@ -216,5 +268,46 @@ impl<D: Harm + Drop> Injects for Faulty<D> {
             return Err(InjectError::PowerLost);
         }
         turn(&mut self.dev, z, to)
+    }
+
+    fn lose_power(&mut self, loss: &LossSpec) -> Result<(), InjectError> {
+        if !self.powered {
+            return Err(InjectError::PowerLost);
+        }
+        match lose(&mut self.dev, loss) {
+            Ok(true) => {
+                self.powered = false;
+                Ok(())
+            }
+            Ok(false) => Err(InjectError::BadFault),
+            Err(error) => Err(harm_error(error)),
+        }
+    }
+
+    fn arm_loss(
+        &mut self,
+        z: ZoneNo,
+        command: Command,
+        done: bool,
+        loss: &LossSpec,
+    ) -> Result<(), InjectError> {
+        if is_misplaced(&self.dev, z, command)
+            || are_bad_cuts(&self.dev, &loss.cuts)
+            || (done && !is_done_or_not(command))
+            || self.armed.is_some()
+        {
+            return Err(InjectError::BadFault);
+        }
+        self.armed.arm(Armed {
+            zone: z,
+            command,
+            carried_out: done,
+            loss: copied(loss),
+        });
+        Ok(())
+    }
+
+    fn power_on(&mut self) {
+        self.powered = true;
     }
 }
