@@ -1,4 +1,6 @@
+pub mod Cutting
 pub mod Faults
 pub mod Harming
+pub mod LossSteps
 pub mod Striking
 pub mod Turning

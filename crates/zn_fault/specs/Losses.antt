@@ -76,5 +76,5 @@ is_met command zones (Some armed) = meets command zones armed.command armed.zone
 
 -- this loss waits, and the command meets it
 pub record Meets (command : Command) (zones : Span) (waits : Option Armed) (armed : Armed) : Type 0 where
-  pub waits : waits ≡ Some armed
+  pub waiting : waits ≡ Some armed
   pub met : IsTrue (meets command zones armed.command armed.zone.0)

@@ -40,11 +40,12 @@ pub fn copied(loss: &LossSpec) -> LossSpec
     }
 }
 
-/// Whether a cut of this zone is of one that isn't there, or of a conventional one.
-fn is_bad_cut<D: Zoned>(dev: &D, z: ZoneNo) -> bool
-    ensures { (blocks : ℕ) → result ≡ is_bad_cut (D.state dev.now).world.truth (z, blocks) }
+/// Whether the cut is of a zone that isn't there, or of a conventional one.
+#[tactic(auto, using(zn_truth::proofs::Issuing::kind_is))]
+fn is_bad_cut<D: Zoned>(dev: &D, cut: (ZoneNo, u32)) -> bool
+    ensures { result ≡ is_bad_cut (D.state dev.now).world.truth cut }
 {
-    !is_zone(dev, z) || dev.kind(z) == Kind::Conventional
+    !is_zone(dev, cut.0) || dev.kind(cut.0) == Kind::Conventional
 }
 
 /// Whether one of the cuts is of a zone that isn't there, or of a conventional one.
@@ -52,7 +53,7 @@ fn has_bad_cut<D: Zoned>(dev: &D, cuts: &Cuts) -> bool
     ensures { result ≡ list_any (is_bad_cut (D.state dev.now).world.truth) cuts.now }
 {
     for i in 0..cuts.len() {
-        if is_bad_cut(dev, cuts.at(i).0) {
+        if is_bad_cut(dev, cuts.at(i)) {
             return true;
         }
     }
@@ -91,15 +92,16 @@ pub fn are_bad_cuts<D: Zoned>(dev: &D, cuts: &Cuts) -> bool
 }
 
 /// Whether the cut is to a length below what is durable, or above what is held.
-fn is_outside<D: Harm>(dev: &mut D, z: ZoneNo, blocks: u32) -> Result<bool, DevError>
-    requires zone { z.0 < length (geometry_of (D.state dev.old).world).kinds }
+fn is_outside<D: Harm>(dev: &mut D, cut: (ZoneNo, u32)) -> Result<bool, DevError>
+    requires zone { cut.0.0 < length (geometry_of (D.state dev.old).world).kinds }
     requires unspoilt { (D.state dev.old).spoilt ≡ false }
-    ensures value { IfOk result (λ outside. outside ≡ is_outside (D.state dev.old).world.truth (z, blocks)) }
+    ensures value { IfOk result (λ outside. outside ≡ is_outside (D.state dev.old).world.truth cut) }
     ensures asked { Harmed (D.state dev.old).world.truth (without_value result)
         (D.state dev.old) (D.state dev.new) }
 {
-    let info = info_of(dev, z)?;
-    Ok(blocks < dev.durable(z) || info.held < blocks)
+    let (zone, blocks) = cut;
+    let held = info_of(dev, zone)?.held;
+    Ok(blocks < dev.durable(zone) || held < blocks)
 }
 
 /// Whether one of the cuts is.
@@ -112,8 +114,7 @@ fn are_outside<D: Harm>(dev: &mut D, cuts: &Cuts) -> Result<bool, DevError>
         (D.state dev.old) (D.state dev.new) }
 {
     for i in 0..cuts.len() {
-        let (zone, blocks) = cuts.at(i);
-        if is_outside(dev, zone, blocks)? {
+        if is_outside(dev, cuts.at(i))? {
             return Ok(true);
         }
     }

@@ -2,7 +2,7 @@
 ghost use Rattle.zn_fault.specs.Losses.{LossIsZoneByZone, WritesJoin};
 
 /// Where all zones lose what isn't durable, one after another, and are then closed, that is a loss of power.
-#[tactic(auto, using(crate::proofs::Losing::loss_by_zones))]
+#[tactic(auto, using(crate::proofs::LossSteps::loss_by_zones))]
 pub fn loss_is_zone_by_zone()
     ensures { LossIsZoneByZone }
 {}
