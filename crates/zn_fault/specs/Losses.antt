@@ -30,7 +30,7 @@ abbrev pub lost_at : Truth → ℕ → LossSpec → Truth
 lost_at t z loss = with_zone t z (left_of (zone_at t z).kind (zone_at t z) z loss)
 
 -- the truth in which so many of the first zones did, one after another in rising order
-abbrev pub lost_below : ℕ → Truth → LossSpec → Truth
+unfoldable pub lost_below : ℕ → Truth → LossSpec → Truth
 lost_below zero t loss = t
 lost_below (suc n) t loss = lost_at (lost_below n t loss) n loss
 
