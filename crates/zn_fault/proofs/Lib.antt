@@ -1,6 +1,7 @@
 pub mod Cutting
 pub mod Faults
 pub mod Harming
+pub mod Joining
 pub mod LossSteps
 pub mod Striking
 pub mod Turning
