@@ -1,5 +1,5 @@
 -- Losses of power, by what the device within is asked to do. (own)
-use Rattle.std.specs.Prelude.{◌≡◌, ℕ, zero, suc, ◌+◌, ◌/◌, ◌<◌, ◌≤◌, Bool, false, ◌||◌, List, ◌++◌, length, Option, Some, None, unwrap_or, Ok, Err, IsTrue}
+use Rattle.std.specs.Prelude.{◌≡◌, ℕ, zero, suc, ◌+◌, ◌*◌, ◌/◌, ◌<◌, ◌≤◌, Bool, false, ◌||◌, List, ◌++◌, length, replicate, Option, Some, None, unwrap_or, Ok, Err, IsTrue}
 use Rattle.std.specs.List.{list_any}
 use Rattle.zn_truth.specs.declared.limits.TheConstants.{BLOCK_SIZE}
 use Rattle.zn_truth.specs.declared.Kind.{Kind}
@@ -7,6 +7,8 @@ use Rattle.zn_truth.specs.declared.Kind.TheVariants.{Conventional, Sequential}
 use Rattle.zn_truth.specs.declared.Command.{Command}
 use Rattle.zn_truth.specs.declared.Span.{Span}
 use Rattle.zn_truth.specs.declared.DevError.TheVariants.{PowerLost, Broken, Memory}
+use Rattle.zn_truth.specs.declared.ZoneOp.{ZoneOp}
+use Rattle.zn_truth.specs.declared.ZoneOp.TheVariants.{Open, Close, Reset, Finish}
 use Rattle.zn_truth.specs.declared.LossSpec.{LossSpec}
 use Rattle.zn_truth.specs.declared.Armed.{Armed}
 use Rattle.zn_truth.specs.Truth.{Zone, Truth, zone_at, with_zone}
@@ -60,6 +62,17 @@ lost_inside t order armed = lost (during t order armed.carried_out armed.loss) a
 abbrev pub as_loss : Reply → Reply
 as_loss (Ok unit) = Err PowerLost
 as_loss (Err error) = Err error
+
+-- so many blocks, each byte of them this one
+unfoldable pub filled_with : ℕ → ℕ → List ℕ
+filled_with blocks byte = replicate (BLOCK_SIZE * blocks) byte
+
+-- whether the command that manages a zone is carried out before the power goes inside it, where that is said
+abbrev pub is_carried_out : ZoneOp → Bool → Bool
+is_carried_out Reset carried_out = carried_out
+is_carried_out Finish carried_out = carried_out
+is_carried_out Open carried_out = false
+is_carried_out Close carried_out = false
 
 -- a write of more behind one that is done does what one write of both does
 abbrev pub WritesJoin : Type 0

@@ -1,7 +1,6 @@
 // Commands to the device within, inside which the power goes.
-ghost use Rattle.std.specs.Prelude.{◌≡◌, ◌*◌, ◌/◌, ◌≤◌, length, take, replicate, false};
+ghost use Rattle.std.specs.Prelude.{◌≡◌, ◌*◌, ◌/◌, ◌≤◌, length, take, false};
 ghost use Rattle.zn_truth.specs.declared.limits.TheConstants.{BLOCK_SIZE};
-ghost use Rattle.zn_truth.specs.declared.LossSpec.{LossSpec};
 ghost use Rattle.zn_truth.specs.Truth.{zone_at, with_zone, is_sequential};
 ghost use Rattle.zn_truth.specs.Orders.{WriteAt, Manage, done};
 ghost use Rattle.zn_truth.specs.Power.{settled, stored, cut_write, write_during, during};
@@ -9,7 +8,7 @@ ghost use Rattle.zn_truth.specs.World.{geometry_of};
 ghost use Rattle.zn_truth.specs.Obeying.{IsWhole, Fits, IsZoneToManage};
 ghost use Rattle.zn_device.specs.States.{Commanded};
 ghost use Rattle.zn_device.specs.Harms.{Harmed};
-ghost use Rattle.zn_fault.specs.Losses.{unrefused, lost_inside};
+ghost use Rattle.zn_fault.specs.Losses.{unrefused, lost_inside, filled_with, is_carried_out};
 
 use crate::asked::{clamped, info_of};
 use crate::cuts::cut_of;
@@ -30,9 +29,9 @@ fn unrefused(reply: Result<(), DevError>) -> Result<(), DevError>
 }
 
 /// A block of which each byte is this one.
+#[tactic(auto, unfolding(crate::specs::Losses::filled_with))]
 fn block_of(byte: u8) -> [u8; 4096]
-    ensures long { length result ≡ BLOCK_SIZE }
-    ensures filled { result ≡ replicate (length result) byte }
+    ensures { result ≡ filled_with 1 byte }
 {
     [byte; 4096]
 }
@@ -50,8 +49,7 @@ fn write_filled<D: Harm>(
     requires some { 1 ≤ blocks }
     requires fits { Fits (geometry_of (D.state dev.old).world) z.0 at blocks }
     requires unspoilt { (D.state dev.old).spoilt ≡ false }
-    ensures { Commanded (WriteAt z.0 at (replicate (BLOCK_SIZE * blocks) byte)) result
-        (D.state dev.old) (D.state dev.new) }
+    ensures { Commanded (WriteAt z.0 at (filled_with blocks byte)) result (D.state dev.old) (D.state dev.new) }
 {
     let block = block_of(byte);
     dev.write(z, at, &block)?;
@@ -182,21 +180,28 @@ pub fn lose_in_write<D: Harm>(
     lose_zones(dev, &armed.loss)
 }
 
-/// A reset or finish is carried out, if that is said, and nothing else is.
-fn manage_during<D: Harm>(
-    dev: &mut D,
-    z: ZoneNo,
-    op: ZoneOp,
-    carried_out: bool,
-) -> Result<(), DevError>
-    requires zone { IsZoneToManage (geometry_of (D.state dev.old).world) z.0 }
-    requires unspoilt { (D.state dev.old).spoilt ≡ false }
-    ensures { (loss : LossSpec) → Harmed (during (D.state dev.old).world.truth (Manage z.0 op) carried_out loss) result
-        (D.state dev.old) (D.state dev.new) }
+/// Whether the command is carried out before the power goes inside it: a reset or finish is, if that is said.
+fn is_carried_out(op: ZoneOp, carried_out: bool) -> bool
+    ensures { result ≡ is_carried_out op carried_out }
 {
     match op {
-        ZoneOp::Reset | ZoneOp::Finish if carried_out => unrefused(dev.manage(z, op)),
-        _ => Ok(()),
+        ZoneOp::Reset | ZoneOp::Finish => carried_out,
+        ZoneOp::Open | ZoneOp::Close => false,
+    }
+}
+
+/// A reset or finish is carried out, if that is said, and nothing else is.
+fn manage_during<D: Harm>(dev: &mut D, z: ZoneNo, op: ZoneOp, armed: &Armed) -> Result<(), DevError>
+    requires zone { IsZoneToManage (geometry_of (D.state dev.old).world) z.0 }
+    requires unspoilt { (D.state dev.old).spoilt ≡ false }
+    ensures { let t = (D.state dev.old).world.truth in
+        Harmed (during t (Manage z.0 op) armed.now.carried_out armed.now.loss) result
+        (D.state dev.old) (D.state dev.new) }
+{
+    if is_carried_out(op, armed.carried_out) {
+        unrefused(dev.manage(z, op))
+    } else {
+        Ok(())
     }
 }
 
@@ -212,6 +217,6 @@ pub fn lose_in_manage<D: Harm>(
     ensures { Harmed (lost_inside (D.state dev.old).world.truth (Manage z.0 op) armed.now) result
         (D.state dev.old) (D.state dev.new) }
 {
-    manage_during(dev, z, op, armed.carried_out)?;
+    manage_during(dev, z, op, armed)?;
     lose_zones(dev, &armed.loss)
 }
