@@ -1,7 +1,7 @@
 -- Commands to a device without faults of its own, inside which the power goes.
-use Rattle.std.proofs.Common.{◌≡◌, ℕ, ◌+◌, ◌-◌, ◌*◌, ◌/◌, ◌<◌, ◌≤◌, min, max, Bool, true, false, List, [], ◌++◌, length, take, replicate, Option, Some, None, Ok, Err, nat_lt, refl, sym, ap, ◌∙◌, subst, arith}
+use Rattle.std.proofs.Common.{◌≡◌, ℕ, ◌+◌, ◌-◌, ◌*◌, ◌/◌, ◌<◌, ◌≤◌, min, max, Bool, true, false, List, [], ◌++◌, length, take, replicate, Option, Some, None, Ok, Err, nat_lt, refl, sym, ap, ◌∙◌, subst, ⊎_elim, arith}
 use Rattle.std.specs.Prelude.{if◌then◌else◌, not, unwrap_or, IsOk, IsErrOf}
-use Rattle.std.proofs.lemmas.Bool.{false≢true}
+use Rattle.std.proofs.lemmas.Bool.{false≢true, cases_lt}
 use Rattle.std.proofs.lemmas.List.{length-take, length-replicate, replicate-append-replicate, take_all}
 use Rattle.zn_truth.specs.declared.DevError.{DevError}
 use Rattle.zn_truth.specs.declared.DevError.TheVariants.{ReadOnly, Offline, Unaligned, TooManyActive, TooManyOpen, BeyondWp, Fault, PowerLost, Broken, Memory}
@@ -190,3 +190,25 @@ settled_whole z held info r old middle new asked told held_is h =
     ap (λ (v : Truth). with_zone v z (settled (zone_at v z) held held None)) (truth_between asked)
     ∙ ap (λ n. with_zone t z (settled (zone_at t z) n n None)) (held_is ∙ ap (λ (i : ZoneInfo). i.held) told) in
     then_harmed t _ r old middle new asked (subst (λ (v : Truth). Harmed v r middle new) same h)
+
+-- ---- the first blocks of a write
+
+-- so many blocks of the bytes, or all
+front_is : (blocks n : ℕ) (bytes part : List ℕ) → part ≡ take (4096 * n) bytes → n ≡ min blocks (length bytes / 4096) → IsWhole bytes → part ≡ take (4096 * blocks) bytes
+front_is blocks n bytes part is n_is whole = ⊎_elim
+    (λ less. is ∙ ap (λ k. take (4096 * k) bytes) (omega (arith, n_is)))
+    (λ all. is ∙ take_all (4096 * n) bytes (omega (arith, n_is, whole.whole)) ∙ sym (take_all (4096 * blocks) bytes (omega (arith, whole.whole))))
+    (cases_lt blocks (length bytes / 4096))
+
+-- the zone with all that it holds durable
+abbrev pub whole_at : Truth → ℕ → Truth
+whole_at t z = with_zone t z (settled (zone_at t z) (zone_at t z).held (zone_at t z).held None)
+
+pub front_written : (z at blocks n : ℕ) (bytes part : List ℕ) (fill : Option ℕ) (r s : Reply) (old middle new : DeviceState) → part ≡ take (4096 * n) bytes → n ≡ min blocks (length bytes / 4096) → IsWhole bytes
+    → Commanded (WriteAt z at (stored fill part)) r old middle → unrefused r ≡ Ok tt → old.world ≡ calm old.world.truth → old.faults ≡ 0 → middle.faults ≡ 0 → Harmed (whole_at middle.world.truth z) s middle new
+    → Harmed (whole_at (done old.world.truth (WriteAt z at (stored fill (take (4096 * blocks) bytes)))).truth z) s old new
+front_written z at blocks n bytes part fill r s old middle new is n_is whole h ok is_calm faultless still second =
+    let after : List ℕ → Truth = λ bs. (done old.world.truth (WriteAt z at (stored fill bs))).truth in
+    let first : Harmed (after part) (Ok tt) old middle = subst (λ (v : Reply). Harmed (after part) v old middle) ok (done_harmed (WriteAt z at (stored fill part)) r old middle h is_calm faultless still) in
+    subst (λ (bs : List ℕ). Harmed (whole_at (after bs) z) s old new) (front_is blocks n bytes part is n_is whole)
+    (then_harmed (after part) (whole_at (after part) z) s old middle new first (subst (λ (t : Truth). Harmed (whole_at t z) s middle new) (truth_between first) second))

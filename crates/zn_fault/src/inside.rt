@@ -1,5 +1,5 @@
 // Commands to the device within, inside which the power goes.
-ghost use Rattle.std.specs.Prelude.{◌≡◌, ◌*◌, ◌/◌, ◌≤◌, length, take, false};
+ghost use Rattle.std.specs.Prelude.{◌≡◌, ◌*◌, ◌/◌, ◌≤◌, min, length, take, None, false};
 ghost use Rattle.zn_truth.specs.declared.limits.TheConstants.{BLOCK_SIZE};
 ghost use Rattle.zn_truth.specs.Truth.{zone_at, with_zone, is_sequential};
 ghost use Rattle.zn_truth.specs.Orders.{WriteAt, Manage, done};
@@ -91,6 +91,13 @@ fn settle_whole<D: Harm>(dev: &mut D, z: ZoneNo) -> Result<(), DevError>
     dev.settle(z, held, held, None)
 }
 
+/// So many blocks, or as many as there are.
+fn at_most(blocks: u32, bytes: &[u8]) -> usize
+    ensures { result ≡ min blocks (length bytes.now / BLOCK_SIZE) }
+{
+    min(blocks as usize, bytes.len() / BLOCK_SIZE)
+}
+
 /// The first blocks of a write to a sequential zone, so many of them, are carried out, unless they are refused. All
 /// that the zone then holds is durable.
 fn write_front<D: Harm>(
@@ -111,7 +118,7 @@ fn write_front<D: Harm>(
         Harmed (with_zone t z.0 (settled (zone_at t z.0) (zone_at t z.0).held (zone_at t z.0).held None)) result
         (D.state dev.old) (D.state dev.new) }
 {
-    let n = min(blocks as usize, bytes.len() / BLOCK_SIZE);
+    let n = at_most(blocks, bytes);
     unrefused(write_stored(dev, z, at, &bytes[..BLOCK_SIZE * n], fill))?;
     settle_whole(dev, z)
 }
