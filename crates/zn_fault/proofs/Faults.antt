@@ -1,6 +1,6 @@
 -- A device with faults and a loss that wait, over one that has none.
 use Rattle.std.proofs.Common.{◌≡◌, ℕ, ◌+◌, Bool, true, false, List, length, Option, Some, None, Ok, Err, refl, sym, ap, ◌∙◌, arith}
-use Rattle.std.specs.Prelude.{◌&&◌, if◌then◌else◌, is_err, IsOk, IsErr, IsErrOf}
+use Rattle.std.specs.Prelude.{not, ◌&&◌, if◌then◌else◌, is_err, IsOk, IsErr, IsErrOf}
 use Rattle.std.proofs.lemmas.Bool.{false≢true}
 use Rattle.zn_base.specs.Causes.{Rose}
 use Rattle.zn_truth.specs.declared.Armed.{Armed}
@@ -9,7 +9,8 @@ use Rattle.zn_truth.specs.declared.DevError.TheVariants.{Fault, PowerLost, Broke
 use Rattle.zn_truth.specs.declared.FaultSpec.{FaultSpec}
 use Rattle.zn_truth.specs.declared.ZoneOp.{ZoneOp}
 use Rattle.zn_truth.specs.Truth.{Truth}
-use Rattle.zn_truth.specs.Orders.{Order, ReadAt, Manage, ReportFrom, Reply, Done}
+use Rattle.zn_truth.specs.Orders.{Order, ReadAt, Manage, FlushAll, ReportFrom, Reply, Done}
+use Rattle.zn_truth.specs.Power.{lost, during}
 use Rattle.zn_truth.specs.World.{World, Outcome, geometry_of, issue, issue_armed, unarmed, powered_off, calm, command_of, zones_of, meets, met, unmet, struck, outcome, faulted}
 use Rattle.zn_truth.specs.Obeying.{is_answered}
 use Rattle.zn_truth.proofs.Issuing.{calm_done}
@@ -186,10 +187,10 @@ struck_commanded order fault result old new powered pending rest armed faults co
 gone : (t : Truth) (order : Order) (powered : Bool) (pending : List FaultSpec) (waits : Option Armed) (armed : Armed) → powered ≡ true → Meets (command_of order) (zones_of order) waits armed
     → issue (around t powered pending waits) order ≡ powered_off t pending armed order
 unfolding issue
-gone t order powered pending waits armed on meets =
+gone t order powered pending waits armed on meeting =
     ap (λ b. issue (around t b pending waits) order) on
-    ∙ ap (λ (o : Option Armed). issue (around t true pending o) order) meets.waiting
-    ∙ ap (λ b. if b then powered_off t pending armed order else unarmed (around t true pending (Some armed)) order (Some armed)) meets.met
+    ∙ ap (λ (o : Option Armed). issue (around t true pending o) order) meeting.waiting
+    ∙ ap (λ b. if b then powered_off t pending armed order else unarmed (around t true pending (Some armed)) order (Some armed)) meeting.met
 
 -- a loss that is answered by none but a break or want of memory is told as a loss
 abbrev IsLossTold : Reply → Type 0
@@ -209,8 +210,8 @@ pub lost_commanded : (order : Order) (armed : Armed) (r : Reply) (old new : Devi
     → Harmed (lost_inside old.world.truth order armed) r old new → Meets (command_of order) (zones_of order) waits armed → powered ≡ true
     → Commanded order (as_loss r) (faulty_state old powered pending waits faults) (faulty_state new (powered && is_err r) pending None faults)
 unfolding geometry_of
-lost_commanded order armed r old new powered pending waits faults h meets on =
-    let same : _ = gone old.world.truth order powered pending waits armed on meets in
+lost_commanded order armed r old new powered pending waits faults h meeting on =
+    let same : _ = gone old.world.truth order powered pending waits armed on meeting in
     let told : IsLossTold r = loss_told r in
     record {
       obeys = record {
@@ -222,7 +223,7 @@ lost_commanded order armed r old new powered pending waits faults h meets on =
         geometry = h.geometry;
       };
       caused = record {
-        spoilt = h.caused.spoilt ∙ ap (λ b. if b then false else true) (sym told.0);
+        spoilt = h.caused.spoilt ∙ ap not (sym told.0);
         cause = record {
           later = omega arith;
           fault = λ is. absurd (no_fault_told is);
@@ -243,6 +244,19 @@ lost_commanded order armed r old new powered pending waits faults h meets on =
   where
     no_fault_told : IsErrOf (as_loss r) Fault → ⊥
     no_fault_told is = let e : IsErrOf r Fault = (loss_told r).3 is in let told : r ≡ Ok tt = h.done (ap is_answered e) in cc
+
+-- before a read, a flush and a report
+pub read_lost : (z at n : ℕ) (armed : Armed) (r : Reply) (old new : DeviceState) → Harmed (lost old.world.truth armed.loss) r old new → Harmed (lost_inside old.world.truth (ReadAt z at n) armed) r old new
+unfolding during
+read_lost z at n armed r old new h = h
+
+pub flush_lost : (armed : Armed) (r : Reply) (old new : DeviceState) → Harmed (lost old.world.truth armed.loss) r old new → Harmed (lost_inside old.world.truth FlushAll armed) r old new
+unfolding during
+flush_lost armed r old new h = h
+
+pub report_lost : (first n : ℕ) (armed : Armed) (r : Reply) (old new : DeviceState) → Harmed (lost old.world.truth armed.loss) r old new → Harmed (lost_inside old.world.truth (ReportFrom first n) armed) r old new
+unfolding during
+report_lost first n armed r old new h = h
 
 -- ---- what the device within does where a fault meets the command
 

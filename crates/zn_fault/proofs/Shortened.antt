@@ -22,7 +22,7 @@ use Rattle.zn_device.specs.Causes.{is_refused}
 use Rattle.zn_device.specs.Harms.{Harmed}
 use Rattle.zn_device.specs.States.{DeviceState, Commanded}
 use Rattle.zn_fault.specs.Losses.{unrefused, filled_with, is_carried_out, lost_inside}
-use Rattle.zn_fault.proofs.Harming.{then_caused, then_harmed, truth_between}
+use Rattle.zn_fault.proofs.Harming.{then_caused, then_harmed, truth_between, unharmed}
 use Rattle.zn_fault.proofs.Joining.{writes_join}
 use Rattle.zn_fault.proofs.Striking.{calm_outcome}
 
@@ -212,3 +212,51 @@ front_written z at blocks n bytes part fill r s old middle new is n_is whole h o
     let first : Harmed (after part) (Ok tt) old middle = subst (λ (v : Reply). Harmed (after part) v old middle) ok (done_harmed (WriteAt z at (stored fill part)) r old middle h is_calm faultless still) in
     subst (λ (bs : List ℕ). Harmed (whole_at (after bs) z) s old new) (front_is blocks n bytes part is n_is whole)
     (then_harmed (after part) (whole_at (after part) z) s old middle new first (subst (λ (t : Truth). Harmed (whole_at t z) s middle new) (truth_between first) second))
+
+-- ---- the power goes inside a command
+
+-- a write to a conventional zone
+pub whole_write : (z at : ℕ) (bytes : List ℕ) (loss : LossSpec) (r : Reply) (old new : DeviceState) → kind_at (geometry_of old.world) z ≡ Conventional → Commanded (WriteAt z at bytes) r old new
+    → old.world ≡ calm old.world.truth → old.faults ≡ 0 → new.faults ≡ 0
+    → Harmed (write_during (is_sequential (zone_at old.world.truth z).kind) old.world.truth z at bytes loss) (unrefused r) old new
+whole_write z at bytes loss r old new conventional h is_calm faultless still =
+    subst (λ (k : Kind). Harmed (write_during (is_sequential k) old.world.truth z at bytes loss) (unrefused r) old new) (sym (sym (kind_is old.world z) ∙ conventional))
+    (done_harmed (WriteAt z at bytes) r old new h is_calm faultless still)
+
+-- and one to a sequential zone
+pub short_write : (z at : ℕ) (bytes : List ℕ) (loss : LossSpec) (r : Reply) (old new : DeviceState) → kind_at (geometry_of old.world) z ≡ Sequential → Harmed (cut_write old.world.truth z at bytes loss) r old new
+    → Harmed (write_during (is_sequential (zone_at old.world.truth z).kind) old.world.truth z at bytes loss) r old new
+short_write z at bytes loss r old new sequential h =
+    subst (λ (k : Kind). Harmed (write_during (is_sequential k) old.world.truth z at bytes loss) r old new) (sym (sym (kind_is old.world z) ∙ sequential)) h
+
+pub write_is_during : (t : Truth) (z at : ℕ) (bytes : List ℕ) (carried_out : Bool) (loss : LossSpec) → write_during (is_sequential (zone_at t z).kind) t z at bytes loss ≡ during t (WriteAt z at bytes) carried_out loss
+unfolding during
+write_is_during t z at bytes carried_out loss = refl
+
+-- a reset or finish that is carried out, and a command that isn't
+managed_during : (op : ZoneOp) (t : Truth) (z : ℕ) (carried_out : Bool) (loss : LossSpec) → during t (Manage z op) carried_out loss ≡ (if is_carried_out op carried_out then (done t (Manage z op)).truth else t)
+unfolding during
+managed_during Open t z carried_out loss = refl
+managed_during Close t z carried_out loss = refl
+managed_during Reset t z carried_out loss = refl
+managed_during Finish t z carried_out loss = refl
+
+pub manage_done : (z : ℕ) (op : ZoneOp) (armed : Armed) (r : Reply) (old new : DeviceState) → is_carried_out op armed.carried_out ≡ true → Commanded (Manage z op) r old new
+    → old.world ≡ calm old.world.truth → old.faults ≡ 0 → new.faults ≡ 0 → Harmed (during old.world.truth (Manage z op) armed.carried_out armed.loss) (unrefused r) old new
+manage_done z op armed r old new is h is_calm faultless still =
+    let t = old.world.truth in
+    subst (λ (u : Truth). Harmed u (unrefused r) old new)
+    (sym (managed_during op t z armed.carried_out armed.loss ∙ ap (λ b. if b then (done t (Manage z op)).truth else t) is))
+    (done_harmed (Manage z op) r old new h is_calm faultless still)
+
+pub manage_left : (z : ℕ) (op : ZoneOp) (armed : Armed) (s : DeviceState) → is_carried_out op armed.carried_out ≡ false → s.spoilt ≡ false → Harmed (during s.world.truth (Manage z op) armed.carried_out armed.loss) (Ok tt) s s
+manage_left z op armed s is unspoilt =
+    let t = s.world.truth in
+    subst (λ (u : Truth). Harmed u (Ok tt) s s) (sym (managed_during op t z armed.carried_out armed.loss ∙ ap (λ b. if b then (done t (Manage z op)).truth else t) is)) (unharmed s unspoilt)
+
+-- all zones then lose what they lose
+pub lost_during : (order : Order) (armed : Armed) (before : Truth) (r : Reply) (old middle new : DeviceState) → before ≡ during old.world.truth order armed.carried_out armed.loss → Harmed before (Ok tt) old middle
+    → Harmed (lost middle.world.truth armed.loss) r middle new → Harmed (lost_inside old.world.truth order armed) r old new
+lost_during order armed before r old middle new is first second =
+    then_harmed before (lost_inside old.world.truth order armed) r old middle new first
+    (subst (λ (t : Truth). Harmed (lost t armed.loss) r middle new) (truth_between first ∙ is) second)

@@ -1,6 +1,7 @@
 // A device with faults and losses of power that a script asked for.
-ghost use Rattle.std.specs.Prelude.{◌≡◌, ◌&&◌, [], None, false, true, is_err, MatchOption, IfOk, IfErr};
+ghost use Rattle.std.specs.Prelude.{◌≡◌, ◌&&◌, ◌||◌, not, [], None, false, true, is_err, is_some, MatchOption, IfOk, IfErr};
 ghost use Rattle.zn_truth.specs.World.{geometry_of, command_of_op};
+ghost use Rattle.zn_truth.specs.Inject.{is_misplaced, are_bad_cuts, is_done_or_not};
 ghost use Rattle.zn_fault.specs.FaultState.{faulty_state, inner_state};
 ghost use Rattle.zn_fault.specs.Losses.{as_loss};
 ghost use Rattle.zn_fault.specs.Strikes.{Spares, Strikes};
@@ -16,8 +17,8 @@ use crate::turned::{harm_error, turn};
 use std::alloc::{AllocError, Global};
 use zn_device::{Harm, Injects, Zoned};
 use zn_truth::{
-    Armed, Command, Cond, DevError, FaultSpec, InjectError, Kind, LossSpec, Shape, Span, ZoneInfo,
-    ZoneNo, ZoneOp,
+    Armed, Command, Cond, Cuts, DevError, FaultSpec, InjectError, Kind, LossSpec, Shape, Span,
+    ZoneInfo, ZoneNo, ZoneOp,
 };
 
 /// A device with faults and losses of power that a script asked for, over one that has none. Only `new` takes memory.
@@ -121,6 +122,26 @@ fn strike(
     Some(fault)
 }
 
+/// Whether a loss can't wait for the command: that can't come on the zone, a cut is bad, `done` is said of a command that
+/// is neither a reset nor a finish, or a loss waits already.
+fn is_bad_arm<D: Zoned>(
+    dev: &D,
+    armed: &Waiting,
+    z: ZoneNo,
+    command: Command,
+    done: bool,
+    cuts: &Cuts,
+) -> bool
+    ensures { let t = (D.state dev.now).world.truth in
+        result ≡ (is_misplaced t z.0 command || are_bad_cuts t cuts.now || (done && not (is_done_or_not command))
+        || is_some armed.now) }
+{
+    is_misplaced(dev, z, command)
+        || are_bad_cuts(dev, cuts)
+        || (done && !is_done_or_not(command))
+        || armed.is_some()
+}
+
 /// The loss that waited is used up. The power is off, unless the device within broke or lacked memory.
 fn go_off(
     powered: &mut bool,
@@ -180,11 +201,12 @@ impl<D: Harm + Drop> Zoned for Faulty<D> {
         if !self.powered {
             return Err(DevError::PowerLost);
         }
-        if let Some(armed) = self.armed.met(Command::Read, one(z)) {
+        let zones = one(z);
+        if let Some(armed) = self.armed.met(Command::Read, zones) {
             let reply = lose_zones(&mut self.dev, &armed.loss);
             return go_off(&mut self.powered, &mut self.armed, reply);
         }
-        match strike(&mut self.pending, &mut self.faults, Command::Read, one(z)) {
+        match strike(&mut self.pending, &mut self.faults, Command::Read, zones) {
             None => self.dev.read(z, at, out),
             Some(_) => Err(DevError::Fault),
         }
@@ -194,11 +216,12 @@ impl<D: Harm + Drop> Zoned for Faulty<D> {
         if !self.powered {
             return Err(DevError::PowerLost);
         }
-        if let Some(armed) = self.armed.met(Command::Write, one(z)) {
+        let zones = one(z);
+        if let Some(armed) = self.armed.met(Command::Write, zones) {
             let reply = lose_in_write(&mut self.dev, z, at, bytes, armed);
             return go_off(&mut self.powered, &mut self.armed, reply);
         }
-        match strike(&mut self.pending, &mut self.faults, Command::Write, one(z)) {
+        match strike(&mut self.pending, &mut self.faults, Command::Write, zones) {
             None => self.dev.write(z, at, bytes),
             Some(fault) => write_in_part(&mut self.dev, z, at, bytes, fault),
         }
@@ -208,16 +231,13 @@ impl<D: Harm + Drop> Zoned for Faulty<D> {
         if !self.powered {
             return Err(DevError::PowerLost);
         }
-        if let Some(armed) = self.armed.met(command_of_op(op), one(z)) {
+        let command = command_of_op(op);
+        let zones = one(z);
+        if let Some(armed) = self.armed.met(command, zones) {
             let reply = lose_in_manage(&mut self.dev, z, op, armed);
             return go_off(&mut self.powered, &mut self.armed, reply);
         }
-        match strike(
-            &mut self.pending,
-            &mut self.faults,
-            command_of_op(op),
-            one(z),
-        ) {
+        match strike(&mut self.pending, &mut self.faults, command, zones) {
             None => self.dev.manage(z, op),
             Some(_) => Err(DevError::Fault),
         }
@@ -227,11 +247,12 @@ impl<D: Harm + Drop> Zoned for Faulty<D> {
         if !self.powered {
             return Err(DevError::PowerLost);
         }
-        if let Some(armed) = self.armed.met(Command::Flush, every()) {
+        let zones = every();
+        if let Some(armed) = self.armed.met(Command::Flush, zones) {
             let reply = lose_zones(&mut self.dev, &armed.loss);
             return go_off(&mut self.powered, &mut self.armed, reply);
         }
-        match strike(&mut self.pending, &mut self.faults, Command::Flush, every()) {
+        match strike(&mut self.pending, &mut self.faults, Command::Flush, zones) {
             None => self.dev.flush(),
             Some(fault) => flush_in_part(&mut self.dev, fault),
         }
@@ -291,11 +312,7 @@ impl<D: Harm + Drop> Injects for Faulty<D> {
         done: bool,
         loss: &LossSpec,
     ) -> Result<(), InjectError> {
-        if is_misplaced(&self.dev, z, command)
-            || are_bad_cuts(&self.dev, &loss.cuts)
-            || (done && !is_done_or_not(command))
-            || self.armed.is_some()
-        {
+        if is_bad_arm(&self.dev, &self.armed, z, command, done, &loss.cuts) {
             return Err(InjectError::BadFault);
         }
         self.armed.arm(Armed {
