@@ -3,6 +3,7 @@ pub mod Faults
 pub mod Harming
 pub mod Joining
 pub mod LossSteps
+pub mod Powering
 pub mod Shortened
 pub mod Striking
 pub mod Turning

@@ -25,10 +25,10 @@ use Rattle.zn_fault.proofs.Harming.{unharmed, then_harmed}
 -- ---- what is told of a harm
 
 -- a harm answers success, a break or want of memory, and each is told as it is
-abbrev IsTold : Reply → Type 0
+abbrev pub IsTold : Reply → Type 0
 IsTold r = (is_told (harm_reply r) ≡ is_answered r) × (IsErrOf (harm_reply r) broken → IsErrOf r Broken) × (IsErrOf (harm_reply r) memory → IsErrOf r Memory)
 
-harm_told : (r : Reply) → (IsAnswered r → r ≡ Ok tt) → IsTold r
+pub harm_told : (r : Reply) → (IsAnswered r → r ≡ Ok tt) → IsTold r
 harm_told (Ok unit) done = (refl, λ is. absurd (cc), λ is. absurd (cc))
 harm_told (Err Broken) done = (refl, λ is. refl, λ is. absurd (cc))
 harm_told (Err Memory) done = (refl, λ is. absurd (cc), λ is. refl)

@@ -324,6 +324,7 @@ impl<D: Harm + Drop> Injects for Faulty<D> {
         Ok(())
     }
 
+    #[tactic(auto, unfolding(zn_truth::specs::Inject::power_on))]
     fn power_on(&mut self) {
         self.powered = true;
     }
