@@ -447,8 +447,8 @@ lost_reply (Err refusal) h = ap (λ (r : Refusal). Err r) (is_lost refusal h)
 told : {X : Type 0} {answer : Answer X} → Tells answer → TellsPower answer
 told {X = X} {answer = answer} h = record {
   lost = (
-      λ is. is_not answer.mounted.world.powered (sym (ap (λ (r : Result X Refusal). tells_lost r) is) ∙ h.same),
-      λ off. lost_reply answer.reply (h.same ∙ ap not off)
+    λ is. is_not answer.mounted.world.powered (sym (ap (λ (r : Result X Refusal). tells_lost r) is) ∙ h.same),
+    λ off. lost_reply answer.reply (h.same ∙ ap not off),
   );
 }
 

@@ -219,7 +219,10 @@ fn zones_are_placed_and_reported(rt: HostRuntime) -> Result<(), Fail> {
     assert_eq!(rt; volume.report(&mut infos), Ok(()));
     for (z, info) in infos.iter().enumerate() {
         let held = if z == 3 { 0 } else { 2 };
-        assert_eq!(rt; (info.cond, info.held, info.explicit), (Cond::Good, held, false));
+        assert_eq!(rt;
+            (info.cond, info.held, info.explicit),
+            (Cond::Good, held, false)
+        );
     }
     Ok(())
 }

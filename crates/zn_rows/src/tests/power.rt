@@ -66,7 +66,9 @@ fn cuts_of_a_loss(rt: HostRuntime) -> Result<(), Fail> {
         "1:3 1:3",
         "2:1",
     ] {
-        let script = format!(in rt.alloc(); "{FOUR_BLOCKS}power-loss {words}\nread 0 12288 8192\n")?;
+        let script = format!(in rt.alloc();
+            "{FOUR_BLOCKS}power-loss {words}\nread 0 12288 8192\n"
+        )?;
         carried_out(
             rt,
             rt.alloc(),
@@ -119,11 +121,7 @@ fn losses_inside_commands(rt: HostRuntime) -> Result<(), Fail> {
         // A reset or a finish is done or not done.
         ("reset 1:3", "truncate 0 0", "ok 12288 61*8192+62*4096"),
         ("reset done 1:3", "truncate 0 0", "ok 0"),
-        (
-            "finish 1:3",
-            "truncate 0 32768",
-            "ok 12288 61*8192+62*4096",
-        ),
+        ("finish 1:3", "truncate 0 32768", "ok 12288 61*8192+62*4096"),
         (
             "finish done fill=ee 1:3",
             "truncate 0 32768",
