@@ -1,5 +1,5 @@
 // Harm to zones in memory.
-ghost use Rattle.std.specs.Prelude.{◌≡◌, ◌<◌, ◌≤◌, length};
+ghost use Rattle.std.specs.Prelude.{◌≡◌, ◌<◌, ◌≤◌, List, length};
 ghost use Rattle.zn_truth.specs.declared.Kind.TheVariants.{Conventional};
 ghost use Rattle.zn_truth.specs.Truth.{zone_at, with_zone, kind_at, geometry};
 ghost use Rattle.zn_truth.specs.Loss.{turned};
@@ -8,7 +8,8 @@ ghost use Rattle.zn_truth.specs.Inject.{severity};
 ghost use Rattle.zn_truth.specs.Obeying.{IsZoneToManage};
 ghost use Rattle.zn_zone.specs.Facts.{Facts};
 ghost use Rattle.zn_zone.specs.Machine.{facts};
-ghost use Rattle.zn_device.specs.Harms.{scrubbed};
+ghost use Rattle.zn_device.specs.declared.store.Store.{Store};
+ghost use Rattle.zn_device.specs.Harms.{scrubbed, rested};
 ghost use Rattle.zn_device.specs.Stores.{truth_of, HasStores, IsSoundDevice};
 
 use crate::store::Store;
@@ -73,4 +74,15 @@ pub fn scrub_stored(zones: &Zones, stores: &mut Vec<Store>, z: ZoneNo, fill: Opt
     ensures stored { HasStores (facts zones.now) stores.new.items }
 {
     stores[z.0 as usize].scrub(fill);
+}
+
+/// Closes every open zone, whatever is stored of them.
+#[tactic(auto, using(crate::proofs::Harms::rest_truth, crate::proofs::Harms::device_rested))]
+pub fn rest_stored(zones: &mut Zones)
+    ensures truth { (stores : List Store) →
+        truth_of (facts zones.new) stores ≡ rested (truth_of (facts zones.old) stores) }
+    ensures device { (stores : List Store) →
+        IsSoundDevice (facts zones.old) stores → IsSoundDevice (facts zones.new) stores }
+{
+    zones.rest();
 }

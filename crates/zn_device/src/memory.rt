@@ -8,7 +8,7 @@ ghost use Rattle.zn_device.specs.Stores.{truth_of, IsSoundDevice};
 
 use crate::commands::{flush_all, manage_stored, read_stored, report_from, write_stored};
 use crate::fresh::{fresh_infos, fresh_stores};
-use crate::harming::{durable_stored, scrub_stored, settle_stored, turn_stored};
+use crate::harming::{durable_stored, rest_stored, scrub_stored, settle_stored, turn_stored};
 use crate::store::Store;
 use crate::{Harm, Zoned};
 use std::alloc::{AllocError, Global};
@@ -123,7 +123,7 @@ impl Harm for MemDevice {
     }
 
     fn rest(&mut self) {
-        self.zones.rest();
+        rest_stored(&mut self.zones);
     }
 }
 

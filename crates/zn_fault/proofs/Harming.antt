@@ -11,14 +11,14 @@ use Rattle.zn_truth.specs.Orders.{ReportFrom, Reply, done}
 use Rattle.zn_truth.specs.Power.{settled, clamped}
 use Rattle.zn_truth.specs.World.{World, Outcome, geometry_of, issue, calm, settled_by_flush}
 use Rattle.zn_truth.proofs.Issuing.{calm_done, kinds-length, kind_is, not_settled, is_settled}
-use Rattle.zn_device.specs.States.{DeviceState, Commanded}
+use Rattle.zn_device.specs.States.{DeviceState, Caused, Commanded}
 use Rattle.zn_device.specs.Harms.{Harmed}
 
 -- how many zones the geometry tells
 pub zones_known : (w : World) → length (geometry_of w).kinds ≡ length w.truth.zones
 zones_known w = kinds-length w
 
--- ---- one harm after another
+-- ---- a device that isn't harmed
 
 -- a device that does nothing is harmed by nothing
 pub unharmed : (s : DeviceState) → s.spoilt ≡ false → Harmed s.world.truth (Ok tt) s s
@@ -62,32 +62,47 @@ report_harmed first n result old new h is_calm =
       caused = h.caused;
     }
 
--- a device that was asked, and then harmed
-pub then_harmed : (truth : Truth) (result : Reply) (old middle new : DeviceState) → Harmed old.world.truth (Ok tt) old middle → Harmed truth result middle new → Harmed truth result old new
-then_harmed truth result old middle new first second =
-    let world : middle.world ≡ old.world = first.world refl in
+-- ---- one harm after another
+
+-- causes one after another, where the first is a success that leaves the power and what waits
+pub then_caused : (result : Reply) (old middle new : DeviceState) → Caused (Ok tt) old middle → Caused result middle new → middle.world.powered ≡ old.world.powered → middle.world.pending ≡ old.world.pending → Caused result old new
+then_caused result old middle new first second powered pending = record {
+  spoilt = second.spoilt;
+  cause = record {
+    later = omega (arith, first.cause.later, second.cause.later);
+    fault = λ is. subst (λ n. Rose n new.faults) (first.cause.kept refl) (second.cause.fault is);
+    kept = λ ok. second.cause.kept ok ∙ first.cause.kept refl;
+    no_fewer = omega (arith, first.cause.no_fewer, second.cause.no_fewer);
+    broken = λ is. subst (λ n. Rose n new.breaks) (first.cause.whole refl) (second.cause.broken is);
+    whole = λ answered. second.cause.whole answered ∙ first.cause.whole refl;
+  };
+  memory = λ none. second.memory (first.same ∙ none);
+  same = second.same ∙ first.same;
+  keeps = second.keeps ∙ first.keeps;
+  powered = λ is. sym powered ∙ second.powered is;
+  still_powered = second.still_powered;
+  no_fault = λ answered same. second.no_fault answered (same ∙ sym pending) ∙ first.cause.kept refl;
+}
+
+-- a device that was harmed, and then again
+pub then_harmed : (before truth : Truth) (result : Reply) (old middle new : DeviceState) → Harmed before (Ok tt) old middle → Harmed truth result middle new → Harmed truth result old new
+then_harmed before truth result old middle new first second =
+    let world : middle.world ≡ record old.world { truth = before } = first.world refl in
     record {
       done = second.done;
       world = λ answered. second.world answered ∙ ap (λ (w : World). let v : World = record w { truth = truth } in v) world;
       geometry = second.geometry ∙ first.geometry;
-      caused = record {
-        spoilt = second.caused.spoilt;
-        cause = record {
-          later = omega (arith, first.caused.cause.later, second.caused.cause.later);
-          fault = λ is. subst (λ n. Rose n new.faults) (first.caused.cause.kept refl) (second.caused.cause.fault is);
-          kept = λ ok. second.caused.cause.kept ok ∙ first.caused.cause.kept refl;
-          no_fewer = omega (arith, first.caused.cause.no_fewer, second.caused.cause.no_fewer);
-          broken = λ is. subst (λ n. Rose n new.breaks) (first.caused.cause.whole refl) (second.caused.cause.broken is);
-          whole = λ answered. second.caused.cause.whole answered ∙ first.caused.cause.whole refl;
-        };
-        memory = λ none. second.caused.memory (first.caused.same ∙ none);
-        same = second.caused.same ∙ first.caused.same;
-        keeps = second.caused.keeps ∙ first.caused.keeps;
-        powered = λ is. ap (λ (w : World). w.powered) (sym world) ∙ second.caused.powered is;
-        still_powered = second.caused.still_powered;
-        no_fault = λ answered pending. second.caused.no_fault answered (pending ∙ ap (λ (w : World). w.pending) (sym world)) ∙ first.caused.cause.kept refl;
-      };
+      caused = then_caused result old middle new first.caused second.caused (ap (λ (w : World). w.powered) world) (ap (λ (w : World). w.pending) world);
     }
+
+-- what the device held in between
+pub truth_between : {before : Truth} {old middle : DeviceState} → Harmed before (Ok tt) old middle → middle.world.truth ≡ before
+truth_between first = ap (λ (w : World). w.truth) (first.world refl)
+
+-- a device that was asked twice
+pub asked_again : (result : Reply) (old middle new : DeviceState) → Harmed old.world.truth (Ok tt) old middle → Harmed middle.world.truth result middle new → Harmed old.world.truth result old new
+asked_again result old middle new first second =
+    then_harmed old.world.truth old.world.truth result old middle new first (subst (λ (t : Truth). Harmed t result middle new) (truth_between first) second)
 
 -- ---- a zone that a flush settles
 
@@ -134,4 +149,4 @@ settle_harmed old middle new z keep len result sequential good is_len asked h =
     ap (λ n. with_zone middle.world.truth z (settled (zone_at middle.world.truth z) n n None)) is_len
     ∙ ap (λ (t : Truth). with_zone t z (settled (zone_at t z) (clamped (zone_at t z) keep) (clamped (zone_at t z) keep) None)) truth
     ∙ sym (is_settled old.world.truth z keep both) in
-    then_harmed (settled_by_flush old.world.truth z keep) result old middle new asked (subst (λ (t : Truth). Harmed t result middle new) same h)
+    then_harmed old.world.truth (settled_by_flush old.world.truth z keep) result old middle new asked (subst (λ (t : Truth). Harmed t result middle new) same h)

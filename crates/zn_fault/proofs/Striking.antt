@@ -40,7 +40,7 @@ fault_refused (Err error) = refl
 
 -- ---- a write
 
-calm_outcome : (w : World) (order : Order) → w ≡ calm w.truth → issue w order ≡ outcome (done w.truth order) [] None
+pub calm_outcome : (w : World) (order : Order) → w ≡ calm w.truth → issue w order ≡ outcome (done w.truth order) [] None
 calm_outcome w order is_calm = ap (λ v. issue v order) is_calm ∙ calm_done w.truth order
 
 -- a write that a fault meets is one of its first blocks, if the fault keeps some

@@ -1,8 +1,9 @@
 -- A zone that turns.
-use Rattle.std.proofs.Common.{◌≡◌, ℕ, Bool, true, false, List, None, Ok, Err, refl, sym, ap, ◌∙◌, subst, arith, nat_le}
+use Rattle.std.proofs.Common.{◌≡◌, ℕ, Bool, true, false, List, Ok, Err, refl, sym, ap, ◌∙◌, subst, Option, arith, nat_le}
 use Rattle.std.specs.Prelude.{◌||◌, not, IsErrOf}
 use Rattle.std.proofs.lemmas.Bool.{false≢true, true≢false}
 use Rattle.std.proofs.lemmas.Grind.{common_steps}
+use Rattle.zn_truth.specs.declared.Armed.{Armed}
 use Rattle.zn_truth.specs.declared.Cond.{Cond}
 use Rattle.zn_truth.specs.declared.DevError.{DevError}
 use Rattle.zn_truth.specs.declared.DevError.TheVariants.{ReadOnly, Offline, Unaligned, TooManyActive, TooManyOpen, BeyondWp, Fault, PowerLost, Broken, Memory}
@@ -24,10 +25,10 @@ use Rattle.zn_fault.proofs.Harming.{unharmed, then_harmed}
 -- ---- what is told of a harm
 
 -- a harm answers success, a break or want of memory, and each is told as it is
-abbrev IsTold : Reply → Type 0
+abbrev pub IsTold : Reply → Type 0
 IsTold r = (is_told (harm_reply r) ≡ is_answered r) × (IsErrOf (harm_reply r) broken → IsErrOf r Broken) × (IsErrOf (harm_reply r) memory → IsErrOf r Memory)
 
-harm_told : (r : Reply) → (IsAnswered r → r ≡ Ok tt) → IsTold r
+pub harm_told : (r : Reply) → (IsAnswered r → r ≡ Ok tt) → IsTold r
 harm_told (Ok unit) done = (refl, λ is. absurd (cc), λ is. absurd (cc))
 harm_told (Err Broken) done = (refl, λ is. refl, λ is. absurd (cc))
 harm_told (Err Memory) done = (refl, λ is. absurd (cc), λ is. refl)
@@ -40,10 +41,14 @@ harm_told (Err BeyondWp) done = absurd (cc (done refl))
 harm_told (Err Fault) done = absurd (cc (done refl))
 harm_told (Err PowerLost) done = absurd (cc (done refl))
 
+-- a calm device has power
+pub has_power : (w : World) → w ≡ calm w.truth → w.powered ≡ true
+has_power w is_calm = ap (λ (v : World). v.powered) is_calm
+
 -- a harm of a device without faults, as a script is told it
-harmed_injecting : (meant : Injected) (truth : Truth) (r : Reply) (old new : DeviceState) → Harmed truth r old new → old.faults ≡ 0 → new.faults ≡ 0
+pub harmed_injecting : (meant : Injected) (truth : Truth) (r : Reply) (old new : DeviceState) → Harmed truth r old new → old.world ≡ calm old.world.truth → new.world ≡ calm new.world.truth → old.faults ≡ 0 → new.faults ≡ 0
     → (IsAnswered r → meant ≡ record { reply = Ok tt; world = record old.world { truth = truth } }) → Injecting meant (harm_reply r) old new
-harmed_injecting meant truth r old new h faultless still is =
+harmed_injecting meant truth r old new h is_calm still_calm faultless still is =
     let told : IsTold r = harm_told r h.done in
     record {
       reply = λ t. let answered : IsAnswered r = sym told.0 ∙ t in ap harm_reply (h.done answered) ∙ sym (ap (λ (x : Injected). x.reply) (is answered));
@@ -53,8 +58,8 @@ harmed_injecting meant truth r old new h faultless still is =
       no_fewer = h.caused.cause.no_fewer;
       broken = λ b. h.caused.cause.broken (told.1 b);
       whole = λ t. h.caused.cause.whole (sym told.0 ∙ t);
-      powered = λ b. h.caused.powered (told.1 b);
-      still_powered = λ b. h.caused.still_powered (told.1 b);
+      powered = λ none. has_power old.world is_calm;
+      still_powered = λ none. has_power new.world still_calm;
       memory = λ none m. h.caused.memory none (told.2 m);
       same = h.caused.same;
       keeps = h.caused.keeps;
@@ -86,16 +91,13 @@ refused_injecting meant e old new h faultless still told is = record {
   no_fewer = h.caused.cause.no_fewer;
   broken = λ b. absurd (false≢true (sym (ap is_told b) ∙ told));
   whole = λ t. h.caused.cause.whole refl;
-  powered = λ b. absurd (false≢true (sym (ap is_told b) ∙ told));
-  still_powered = λ b. absurd (false≢true (sym (ap is_told b) ∙ told));
+  powered = λ none. absurd (false≢true (sym none ∙ told));
+  still_powered = λ none. absurd (false≢true (sym none ∙ told));
   memory = λ none m. false≢true (sym (ap is_told m) ∙ told);
   same = h.caused.same;
   keeps = h.caused.keeps;
   geometry = h.geometry;
 }
-
-has_power : (w : World) → w ≡ calm w.truth → w.powered ≡ true
-has_power w is_calm = ap (λ (v : World). v.powered) is_calm
 
 -- a zone that isn't there
 pub past_turn : (s : DeviceState) (z : ℕ) (to : Cond) → is_zone s.world.truth z ≡ false → s.spoilt ≡ false → s.world ≡ calm s.world.truth → s.faults ≡ 0
@@ -116,50 +118,51 @@ no_worse_turn old new z to asked no_worse is_calm faultless still =
     (bad_turn old.world z to (has_power old.world is_calm) (ap (λ b. not (is_zone old.world.truth z) || b) no_worse ∙ or_true (not (is_zone old.world.truth z))))
 
 -- a zone that couldn't be asked
-pub unasked_turn : (old new : DeviceState) (z : ℕ) (to : Cond) (e : DevError) → Harmed old.world.truth (Err e) old new → old.faults ≡ 0 → new.faults ≡ 0
+pub unasked_turn : (old new : DeviceState) (z : ℕ) (to : Cond) (e : DevError) → Harmed old.world.truth (Err e) old new → old.world ≡ calm old.world.truth → new.world ≡ calm new.world.truth → old.faults ≡ 0 → new.faults ≡ 0
     → Injecting (turn old.world z to) (Err (harm_error e)) old new
-unasked_turn old new z to e h faultless still =
-    harmed_injecting (turn old.world z to) old.world.truth (Err e) old new h faultless still (λ answered. absurd (cc (h.done answered)))
+unasked_turn old new z to e h is_calm still_calm faultless still =
+    harmed_injecting (turn old.world z to) old.world.truth (Err e) old new h is_calm still_calm faultless still (λ answered. absurd (cc (h.done answered)))
 
 -- a condition that is worse
 pub worse_turn : (old middle new : DeviceState) (z : ℕ) (to : Cond) (r : Reply) → Harmed (turned middle.world.truth z to) r middle new → Harmed old.world.truth (Ok tt) old middle
     → is_zone old.world.truth z ≡ true → nat_le (severity to) (severity (zone_at old.world.truth z).cond) ≡ false
-    → old.world ≡ calm old.world.truth → old.faults ≡ 0 → new.faults ≡ 0 → Injecting (turn old.world z to) (harm_reply r) old new
-worse_turn old middle new z to r h asked zone worse is_calm faultless still =
+    → old.world ≡ calm old.world.truth → new.world ≡ calm new.world.truth → old.faults ≡ 0 → new.faults ≡ 0 → Injecting (turn old.world z to) (harm_reply r) old new
+worse_turn old middle new z to r h asked zone worse is_calm still_calm faultless still =
     let truth : middle.world.truth ≡ old.world.truth = ap (λ (w : World). w.truth) (asked.world refl) in
     let whole : Harmed (turned old.world.truth z to) r old new =
-    then_harmed (turned old.world.truth z to) r old middle new asked (subst (λ (t : Truth). Harmed (turned t z to) r middle new) truth h) in
-    harmed_injecting (turn old.world z to) (turned old.world.truth z to) r old new whole faultless still
+    then_harmed old.world.truth (turned old.world.truth z to) r old middle new asked (subst (λ (t : Truth). Harmed (turned t z to) r middle new) truth h) in
+    harmed_injecting (turn old.world z to) (turned old.world.truth z to) r old new whole is_calm still_calm faultless still
     (λ answered. good_turn old.world z to (has_power old.world is_calm) (ap (λ b. not b || nat_le (severity to) (severity (zone_at old.world.truth z).cond)) zone ∙ worse))
 
 -- ---- a turn of the device with faults
 
+-- the world of the device, by its parts
+around : Truth → Bool → List FaultSpec → Option Armed → World
+around t powered pending armed = record { truth = t; powered = powered; pending = pending; armed = armed }
+
 -- whatever waits, a turn with power is that of the device within
-turn_same : (t : Truth) (pending : List FaultSpec) (z : ℕ) (to : Cond) → let around : World = record { truth = t; powered = true; pending = pending; armed = None } in
-    let inner = turn (calm t) z to in turn around z to ≡ record { reply = inner.reply; world = record around { truth = inner.world.truth } }
-unfolding turn
-turn_same t pending z to = by_test (is_bad_turn t z to)
+turn_same : (t : Truth) (pending : List FaultSpec) (armed : Option Armed) (z : ℕ) (to : Cond)
+    → let inner = turn (calm t) z to in turn (around t true pending armed) z to ≡ record { reply = inner.reply; world = around inner.world.truth true pending armed }
+unfolding turn around
+turn_same t pending armed z to = by_test (is_bad_turn t z to)
   where
-    by_test : (bad : Bool) → unless_bad bad (record { truth = t; powered = true; pending = pending; armed = None }) (record { truth = turned t z to; powered = true; pending = pending; armed = None })
-        ≡ (let inner = unless_bad bad (calm t) (calm (turned t z to)) in record { reply = inner.reply; world = record { truth = inner.world.truth; powered = true; pending = pending; armed = None } })
+    by_test : (bad : Bool) → unless_bad bad (around t true pending armed) (around (turned t z to) true pending armed)
+        ≡ (let inner = unless_bad bad (calm t) (calm (turned t z to)) in record { reply = inner.reply; world = around inner.world.truth true pending armed })
     by_test true = refl
     by_test false = refl
 
-around_with : Bool → List FaultSpec → Truth → World
-around_with powered pending t = record { truth = t; powered = powered; pending = pending; armed = None }
-
-pub faulty_turn : (old new : DeviceState) (powered : Bool) (pending : List FaultSpec) (faults z : ℕ) (to : Cond) (r : InjectReply) → Injecting (turn old.world z to) r old new
+pub faulty_turn : (old new : DeviceState) (powered : Bool) (pending : List FaultSpec) (armed : Option Armed) (faults z : ℕ) (to : Cond) (r : InjectReply) → Injecting (turn old.world z to) r old new
     → old.world ≡ calm old.world.truth → powered ≡ true
-    → Injecting (turn (faulty_state old powered pending faults).world z to) r (faulty_state old powered pending faults) (faulty_state new powered pending faults)
-unfolding geometry_of around_with
-faulty_turn old new powered pending faults z to r h is_calm on =
+    → Injecting (turn (faulty_state old powered pending armed faults).world z to) r (faulty_state old powered pending armed faults) (faulty_state new powered pending armed faults)
+unfolding geometry_of around
+faulty_turn old new powered pending armed faults z to r h is_calm on =
     let inner : turn old.world z to ≡ turn (calm old.world.truth) z to = ap (λ (w : World). turn w z to) is_calm in
-    let same : _ = ap (λ b. turn (around_with b pending old.world.truth) z to) on ∙ turn_same old.world.truth pending z to in
+    let same : _ = ap (λ b. turn (around old.world.truth b pending armed) z to) on ∙ turn_same old.world.truth pending armed z to in
     record {
       reply = λ t. h.reply t ∙ ap (λ (x : Injected). x.reply) inner ∙ sym (ap (λ (x : Injected). x.reply) same);
       world = λ t.
-          ap (λ b. around_with b pending new.world.truth) on
-          ∙ ap (λ (w : World). around_with true pending w.truth) (h.world t ∙ ap (λ (x : Injected). x.world) inner)
+          ap (λ b. around new.world.truth b pending armed) on
+          ∙ ap (λ (w : World). around w.truth true pending armed) (h.world t ∙ ap (λ (x : Injected). x.world) inner)
           ∙ sym (ap (λ (x : Injected). x.world) same);
       spoilt = h.spoilt;
       faults = refl;
@@ -174,29 +177,33 @@ faulty_turn old new powered pending faults z to r h is_calm on =
       geometry = h.geometry;
     }
 
-off_turned : (t : Truth) (pending : List FaultSpec) (z : ℕ) (to : Cond) (powered : Bool) → powered ≡ false → turn (around_with powered pending t) z to ≡ record { reply = Err power_lost; world = around_with powered pending t }
-unfolding turn around_with
-off_turned t pending z to true off = absurd (true≢false off)
-off_turned t pending z to false off = refl
+off_turned : (t : Truth) (pending : List FaultSpec) (armed : Option Armed) (z : ℕ) (to : Cond) (powered : Bool) → powered ≡ false
+    → turn (around t powered pending armed) z to ≡ record { reply = Err power_lost; world = around t powered pending armed }
+unfolding turn around
+off_turned t pending armed z to true off = absurd (true≢false off)
+off_turned t pending armed z to false off = refl
+
+-- a refusal that changes nothing
+pub unchanged : (meant : Injected) (e : InjectError) (s : DeviceState) → s.spoilt ≡ false → is_told (Err e) ≡ true → meant ≡ record { reply = Err e; world = s.world } → Injecting meant (Err e) s s
+unchanged meant e s unspoilt told is = record {
+  reply = λ t. sym (ap (λ (x : Injected). x.reply) is);
+  world = λ t. sym (ap (λ (x : Injected). x.world) is);
+  spoilt = unspoilt ∙ ap not (sym told);
+  faults = refl;
+  no_fewer = omega arith;
+  broken = λ b. absurd (false≢true (sym (ap is_told b) ∙ told));
+  whole = λ t. refl;
+  powered = λ none. absurd (false≢true (sym none ∙ told));
+  still_powered = λ none. absurd (false≢true (sym none ∙ told));
+  memory = λ none m. false≢true (sym (ap is_told m) ∙ told);
+  same = refl;
+  keeps = refl;
+  geometry = refl;
+}
 
 -- without power no zone turns
-pub off_turn : (s : DeviceState) (powered : Bool) (pending : List FaultSpec) (faults z : ℕ) (to : Cond) → powered ≡ false → s.spoilt ≡ false
-    → Injecting (turn (faulty_state s powered pending faults).world z to) (Err power_lost) (faulty_state s powered pending faults) (faulty_state s powered pending faults)
-unfolding around_with
-off_turn s powered pending faults z to off unspoilt =
-    let is : _ = off_turned s.world.truth pending z to powered off in
-    record {
-      reply = λ t. sym (ap (λ (x : Injected). x.reply) is);
-      world = λ t. sym (ap (λ (x : Injected). x.world) is);
-      spoilt = unspoilt;
-      faults = refl;
-      no_fewer = omega arith;
-      broken = λ b. absurd (cc);
-      whole = λ t. refl;
-      powered = λ b. absurd (cc);
-      still_powered = λ b. absurd (cc);
-      memory = λ none m. cc;
-      same = refl;
-      keeps = refl;
-      geometry = refl;
-    }
+pub off_turn : (s : DeviceState) (powered : Bool) (pending : List FaultSpec) (armed : Option Armed) (faults z : ℕ) (to : Cond) → powered ≡ false → s.spoilt ≡ false
+    → Injecting (turn (faulty_state s powered pending armed faults).world z to) (Err power_lost) (faulty_state s powered pending armed faults) (faulty_state s powered pending armed faults)
+unfolding around
+off_turn s powered pending armed faults z to off unspoilt =
+    unchanged (turn (around s.world.truth powered pending armed) z to) power_lost (faulty_state s powered pending armed faults) unspoilt refl (off_turned s.world.truth pending armed z to powered off)

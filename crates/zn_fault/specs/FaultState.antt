@@ -1,13 +1,15 @@
--- The state of a device with faults that wait, by that of the device within. (own)
-use Rattle.std.specs.Prelude.{ℕ, Bool, List, None}
+-- The state of a device with faults and a loss that wait, by that of the device within. (own)
+use Rattle.std.specs.Prelude.{ℕ, Bool, List, Option}
 use Rattle.zn_truth.specs.declared.FaultSpec.{FaultSpec}
+use Rattle.zn_truth.specs.declared.Armed.{Armed}
 use Rattle.zn_truth.specs.World.{calm}
 use Rattle.zn_device.specs.States.{DeviceState}
 
--- the device within, with this power, these faults that wait, oldest first, and this count of faults; no loss waits
-abbrev pub faulty_state : DeviceState → Bool → List FaultSpec → ℕ → DeviceState
-faulty_state inner powered pending faults = record inner {
-  world = record { truth = inner.world.truth; powered = powered; pending = pending; armed = None };
+-- the device within, with this power, these faults that wait, oldest first, the loss that waits or none, and this count
+-- of faults
+abbrev pub faulty_state : DeviceState → Bool → List FaultSpec → Option Armed → ℕ → DeviceState
+faulty_state inner powered pending armed faults = record inner {
+  world = record { truth = inner.world.truth; powered = powered; pending = pending; armed = armed };
   faults = faults;
 }
 

@@ -1,3 +1,4 @@
 pub mod FaultState
+pub mod Losses
 pub mod Strikes
 pub mod Turns

@@ -1,11 +1,12 @@
 // What the device within is asked.
-ghost use Rattle.std.specs.Prelude.{◌≡◌, ◌<◌, length, false, IfOk, IsTrue};
+ghost use Rattle.std.specs.Prelude.{◌≡◌, ◌<◌, min, max, length, false, IfOk, IsTrue};
 ghost use Rattle.zn_truth.specs.Truth.{info_at};
 ghost use Rattle.zn_truth.specs.World.{geometry_of};
 ghost use Rattle.zn_truth.specs.Inject.{is_zone};
 ghost use Rattle.zn_device.specs.Harms.{Harmed};
 ghost use Rattle.zn_fault.specs.Strikes.{without_value};
 
+use std::cmp::{max, min};
 use zn_device::{Harm, Zoned};
 use zn_truth::{Cond, DevError, ZoneInfo, ZoneNo};
 
@@ -34,4 +35,11 @@ pub fn info_of<D: Harm>(dev: &mut D, z: ZoneNo) -> Result<ZoneInfo, DevError>
     }];
     dev.report(z, &mut infos)?;
     Ok(infos[0])
+}
+
+/// The length, raised to the durable one or lowered to the blocks held.
+pub fn clamped(len: u32, durable: u32, held: u32) -> u32
+    ensures { result ≡ min (max len durable) held }
+{
+    min(max(len, durable), held)
 }

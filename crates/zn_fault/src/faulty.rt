@@ -1,25 +1,33 @@
-// A device with faults that a script asked for.
-ghost use Rattle.std.specs.Prelude.{◌≡◌, [], false, true, MatchOption, IfOk, IfErr};
+// A device with faults and losses of power that a script asked for.
+ghost use Rattle.std.specs.Prelude.{◌≡◌, ◌&&◌, ◌||◌, not, [], None, false, true, is_err, is_some, MatchOption, IfOk, IfErr};
 ghost use Rattle.zn_truth.specs.World.{geometry_of, command_of_op};
+ghost use Rattle.zn_truth.specs.Inject.{is_misplaced, are_bad_cuts, is_done_or_not};
 ghost use Rattle.zn_fault.specs.FaultState.{faulty_state, inner_state};
+ghost use Rattle.zn_fault.specs.Losses.{as_loss};
 ghost use Rattle.zn_fault.specs.Strikes.{Spares, Strikes};
 
+use crate::armed::Waiting;
+use crate::cuts::{are_bad_cuts, copied};
+use crate::inside::{lose_in_manage, lose_in_write};
+use crate::losing::{lose, lose_zones};
 use crate::pending::Pending;
-use crate::refused::is_bad_fault;
+use crate::refused::{is_bad_fault, is_done_or_not, is_misplaced};
 use crate::struck::{flush_in_part, write_in_part};
-use crate::turned::turn;
-use std::alloc::Global;
+use crate::turned::{harm_error, turn};
+use std::alloc::{AllocError, Global};
 use zn_device::{Harm, Injects, Zoned};
 use zn_truth::{
-    Command, Cond, DevError, FaultSpec, InjectError, Kind, Shape, Span, ZoneInfo, ZoneNo, ZoneOp,
+    Armed, Command, Cond, Cuts, DevError, FaultSpec, InjectError, Kind, LossSpec, Shape, Span,
+    ZoneInfo, ZoneNo, ZoneOp,
 };
 
-/// A device with faults that a script asked for, over one that has none. Only `new` takes memory.
+/// A device with faults and losses of power that a script asked for, over one that has none. Only `new` takes memory.
 #[derive(Drop)]
 pub struct Faulty<D: Harm + Drop> {
     dev: D,
     powered: bool,
     pending: Pending,
+    armed: Waiting,
     faults: u64,
 }
 
@@ -63,18 +71,27 @@ fn command_of_op(op: ZoneOp) -> Command
     }
 }
 
+/// Room for all that may wait: none does.
+fn room(alloc: Global) -> Result<(Pending, Waiting), AllocError>
+    ensures { IfOk result (λ room. (room.0 ≡ []) × (room.1 ≡ None)) }
+{
+    Ok((Pending::new(alloc)?, Waiting::new(alloc)?))
+}
+
 impl<D: Harm + Drop> Faulty<D> {
-    /// The device around this one: with power, no faults that wait, and none counted. It is refused for want of memory
-    /// alone, and then the device is given back as it was.
+    /// The device around this one: with power, nothing that waits, and no faults counted. It is refused for want of
+    /// memory alone, and then the device is given back as it was.
     pub fn new(alloc: Global, dev: D) -> Result<Faulty<D>, FaultyFail<D>>
-        ensures made { IfOk result (λ f. ⟦<Faulty<D> as Zoned>⟧.state f ≡ faulty_state (D.state dev) true [] 0) }
+        ensures made { IfOk result
+            (λ f. ⟦<Faulty<D> as Zoned>⟧.state f ≡ faulty_state (D.state dev) true [] None 0) }
         ensures back { IfErr result (λ fail. fail.dev ≡ dev) }
     {
-        match Pending::new(alloc) {
-            Ok(pending) => Ok(Faulty {
+        match room(alloc) {
+            Ok((pending, armed)) => Ok(Faulty {
                 dev,
                 powered: true,
                 pending,
+                armed,
                 faults: 0,
             }),
             Err(_) => Err(FaultyFail { dev }),
@@ -105,9 +122,45 @@ fn strike(
     Some(fault)
 }
 
+/// Whether a loss can't wait for the command: that can't come on the zone, a cut is bad, `done` is said of a command that
+/// is neither a reset nor a finish, or a loss waits already.
+fn is_bad_arm<D: Zoned>(
+    dev: &D,
+    armed: &Waiting,
+    z: ZoneNo,
+    command: Command,
+    done: bool,
+    cuts: &Cuts,
+) -> bool
+    ensures { let t = (D.state dev.now).world.truth in
+        result ≡ (is_misplaced t z.0 command || are_bad_cuts t cuts.now || (done && not (is_done_or_not command))
+        || is_some armed.now) }
+{
+    is_misplaced(dev, z, command)
+        || are_bad_cuts(dev, cuts)
+        || (done && !is_done_or_not(command))
+        || armed.is_some()
+}
+
+/// The loss that waited is used up. The power is off, unless the device within broke or lacked memory.
+fn go_off(
+    powered: &mut bool,
+    armed: &mut Waiting,
+    reply: Result<(), DevError>,
+) -> Result<(), DevError>
+    ensures reply { result ≡ as_loss reply }
+    ensures powered { powered.new ≡ (powered.old && is_err reply) }
+    ensures used { armed.new ≡ None }
+{
+    armed.clear();
+    reply?;
+    *powered = false;
+    Err(DevError::PowerLost)
+}
+
 #[tactic(auto, unfolding(zn_truth::specs::World::geometry_of))]
 impl<D: Harm + Drop> Zoned for Faulty<D> {
-    ghost state = { λ f. faulty_state (D.Zoned.state f.dev) f.powered f.pending f.faults };
+    ghost state = { λ f. faulty_state (D.Zoned.state f.dev) f.powered f.pending f.armed f.faults };
 
     ghost is_sound = { λ f. D.Zoned.is_sound f.dev };
 
@@ -134,6 +187,10 @@ impl<D: Harm + Drop> Zoned for Faulty<D> {
             first: first.0,
             count: out.len() as u32,
         };
+        if let Some(armed) = self.armed.met(Command::Report, zones) {
+            let reply = lose_zones(&mut self.dev, &armed.loss);
+            return go_off(&mut self.powered, &mut self.armed, reply);
+        }
         match strike(&mut self.pending, &mut self.faults, Command::Report, zones) {
             None => self.dev.report(first, out),
             Some(_) => Err(DevError::Fault),
@@ -144,7 +201,12 @@ impl<D: Harm + Drop> Zoned for Faulty<D> {
         if !self.powered {
             return Err(DevError::PowerLost);
         }
-        match strike(&mut self.pending, &mut self.faults, Command::Read, one(z)) {
+        let zones = one(z);
+        if let Some(armed) = self.armed.met(Command::Read, zones) {
+            let reply = lose_zones(&mut self.dev, &armed.loss);
+            return go_off(&mut self.powered, &mut self.armed, reply);
+        }
+        match strike(&mut self.pending, &mut self.faults, Command::Read, zones) {
             None => self.dev.read(z, at, out),
             Some(_) => Err(DevError::Fault),
         }
@@ -154,7 +216,12 @@ impl<D: Harm + Drop> Zoned for Faulty<D> {
         if !self.powered {
             return Err(DevError::PowerLost);
         }
-        match strike(&mut self.pending, &mut self.faults, Command::Write, one(z)) {
+        let zones = one(z);
+        if let Some(armed) = self.armed.met(Command::Write, zones) {
+            let reply = lose_in_write(&mut self.dev, z, at, bytes, armed);
+            return go_off(&mut self.powered, &mut self.armed, reply);
+        }
+        match strike(&mut self.pending, &mut self.faults, Command::Write, zones) {
             None => self.dev.write(z, at, bytes),
             Some(fault) => write_in_part(&mut self.dev, z, at, bytes, fault),
         }
@@ -164,12 +231,13 @@ impl<D: Harm + Drop> Zoned for Faulty<D> {
         if !self.powered {
             return Err(DevError::PowerLost);
         }
-        match strike(
-            &mut self.pending,
-            &mut self.faults,
-            command_of_op(op),
-            one(z),
-        ) {
+        let command = command_of_op(op);
+        let zones = one(z);
+        if let Some(armed) = self.armed.met(command, zones) {
+            let reply = lose_in_manage(&mut self.dev, z, op, armed);
+            return go_off(&mut self.powered, &mut self.armed, reply);
+        }
+        match strike(&mut self.pending, &mut self.faults, command, zones) {
             None => self.dev.manage(z, op),
             Some(_) => Err(DevError::Fault),
         }
@@ -179,7 +247,12 @@ impl<D: Harm + Drop> Zoned for Faulty<D> {
         if !self.powered {
             return Err(DevError::PowerLost);
         }
-        match strike(&mut self.pending, &mut self.faults, Command::Flush, every()) {
+        let zones = every();
+        if let Some(armed) = self.armed.met(Command::Flush, zones) {
+            let reply = lose_zones(&mut self.dev, &armed.loss);
+            return go_off(&mut self.powered, &mut self.armed, reply);
+        }
+        match strike(&mut self.pending, &mut self.faults, Command::Flush, zones) {
             None => self.dev.flush(),
             Some(fault) => flush_in_part(&mut self.dev, fault),
         }
@@ -216,5 +289,43 @@ impl<D: Harm + Drop> Injects for Faulty<D> {
             return Err(InjectError::PowerLost);
         }
         turn(&mut self.dev, z, to)
+    }
+
+    fn lose_power(&mut self, loss: &LossSpec) -> Result<(), InjectError> {
+        if !self.powered {
+            return Err(InjectError::PowerLost);
+        }
+        match lose(&mut self.dev, loss) {
+            Ok(true) => {
+                self.powered = false;
+                Ok(())
+            }
+            Ok(false) => Err(InjectError::BadFault),
+            Err(error) => Err(harm_error(error)),
+        }
+    }
+
+    fn arm_loss(
+        &mut self,
+        z: ZoneNo,
+        command: Command,
+        done: bool,
+        loss: &LossSpec,
+    ) -> Result<(), InjectError> {
+        if is_bad_arm(&self.dev, &self.armed, z, command, done, &loss.cuts) {
+            return Err(InjectError::BadFault);
+        }
+        self.armed.arm(Armed {
+            zone: z,
+            command,
+            carried_out: done,
+            loss: copied(loss),
+        });
+        Ok(())
+    }
+
+    #[tactic(auto, unfolding(zn_truth::specs::Inject::power_on))]
+    fn power_on(&mut self) {
+        self.powered = true;
     }
 }

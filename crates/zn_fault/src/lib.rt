@@ -1,8 +1,13 @@
-//! A device with faults that a script asked for, over one that has none.
+//! A device with faults and losses of power that a script asked for, over one that has none.
 #![tactic(auto)]
 
+mod armed;
 mod asked;
+mod cuts;
 mod faulty;
+mod inside;
+mod laws;
+mod losing;
 mod pending;
 mod refused;
 mod struck;
@@ -11,3 +16,4 @@ mod tests;
 mod turned;
 
 pub use faulty::{Faulty, FaultyFail};
+pub use laws::{loss_is_zone_by_zone, writes_join};

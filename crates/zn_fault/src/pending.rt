@@ -32,7 +32,7 @@ fn has_zone(zones: Span, z: ZoneNo) -> bool
 }
 
 /// Whether a command on these zones is one of this kind on this zone.
-fn meets(command: Command, zones: Span, other: Command, z: ZoneNo) -> bool
+pub fn meets(command: Command, zones: Span, other: Command, z: ZoneNo) -> bool
     ensures { result ≡ meets command zones other z.0 }
 {
     other == command && has_zone(zones, z)

@@ -1,6 +1,6 @@
-// What refuses a fault or a turn of condition.
+// What refuses a fault, a turn of condition, or a loss that is to wait.
 ghost use Rattle.std.specs.Prelude.{◌≡◌, nat_le};
-ghost use Rattle.zn_truth.specs.Inject.{is_bad_fault, is_misplaced, manages, may_keep, severity};
+ghost use Rattle.zn_truth.specs.Inject.{is_bad_fault, is_misplaced, is_done_or_not, manages, may_keep, severity};
 
 use crate::asked::is_zone;
 use zn_device::Zoned;
@@ -31,9 +31,24 @@ fn may_keep(command: Command) -> bool
     }
 }
 
+/// Whether the command is done or not done where the power goes inside it.
+pub fn is_done_or_not(command: Command) -> bool
+    ensures { result ≡ is_done_or_not command }
+{
+    match command {
+        Command::Reset | Command::Finish => true,
+        Command::Read
+        | Command::Write
+        | Command::Flush
+        | Command::Open
+        | Command::Close
+        | Command::Report => false,
+    }
+}
+
 /// Whether a command of this kind can't come on this zone.
 #[tactic(auto, using(zn_truth::proofs::Issuing::kind_is))]
-fn is_misplaced<D: Zoned>(dev: &D, z: ZoneNo, command: Command) -> bool
+pub fn is_misplaced<D: Zoned>(dev: &D, z: ZoneNo, command: Command) -> bool
     ensures { result ≡ is_misplaced (D.state dev.now).world.truth z.0 command }
 {
     !is_zone(dev, z) || (manages(command) && dev.kind(z) == Kind::Conventional)

@@ -1,5 +1,5 @@
 // What a fault lets the device within do.
-ghost use Rattle.std.specs.Prelude.{◌≡◌, ◌/◌, ◌<◌, min, max, length, unwrap_or, false};
+ghost use Rattle.std.specs.Prelude.{◌≡◌, ◌/◌, ◌<◌, min, length, unwrap_or, false};
 ghost use Rattle.zn_truth.specs.declared.limits.TheConstants.{BLOCK_SIZE};
 ghost use Rattle.zn_truth.specs.Orders.{WriteAt, FlushAll};
 ghost use Rattle.zn_truth.specs.World.{geometry_of, as_fault, settled_by_flush};
@@ -7,8 +7,8 @@ ghost use Rattle.zn_truth.specs.Obeying.{IsWhole, Fits, IsZoneToManage};
 ghost use Rattle.zn_device.specs.Harms.{Harmed};
 ghost use Rattle.zn_fault.specs.Strikes.{Struck};
 
-use crate::asked::{info_of, is_zone};
-use std::cmp::{max, min};
+use crate::asked::{clamped, info_of, is_zone};
+use std::cmp::min;
 use zn_device::Harm;
 use zn_truth::{BLOCK_SIZE, Cond, DevError, FaultSpec, Kind, ZoneNo};
 
@@ -46,13 +46,6 @@ pub fn write_in_part<D: Harm>(
         return Err(DevError::Fault);
     }
     as_fault(dev.write(z, at, &bytes[..BLOCK_SIZE * keep]))
-}
-
-/// The length, raised to the durable one or lowered to the blocks held.
-fn clamped(len: u32, durable: u32, held: u32) -> u32
-    ensures { result ≡ min (max len durable) held }
-{
-    min(max(len, durable), held)
 }
 
 /// A flush that a fault meets settles the sequential zone, if that is good.

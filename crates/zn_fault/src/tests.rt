@@ -4,6 +4,8 @@ ghost use Rattle.zn_truth.specs.World.{geometry_of};
 ghost use Rattle.zn_truth.specs.Obeying.{is_answered, Fits};
 ghost use Rattle.zn_device.specs.Harms.{is_told};
 
+mod losses;
+
 use crate::Faulty;
 use std::alloc::{AllocError, Global};
 use std::process::Abort;

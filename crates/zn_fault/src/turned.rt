@@ -10,7 +10,7 @@ use zn_device::Harm;
 use zn_truth::{Cond, DevError, InjectError, ZoneNo};
 
 /// Want of memory by its name, and all else as a break: no harm meets another error.
-fn harm_error(error: DevError) -> InjectError
+pub fn harm_error(error: DevError) -> InjectError
     ensures { result ≡ harm_error error }
 {
     match error {

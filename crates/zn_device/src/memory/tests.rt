@@ -165,6 +165,14 @@ fn settle(
     assert_eq!(rt; device.durable(z), len);
 }
 
+/// Makes the unflushed blocks of a conventional zone durable.
+fn scrub(rt: &impl Abort, device: &mut MemDevice, z: u32, fill: Option<u8>) {
+    let z = ZoneNo(z);
+    assert!(rt; z.0 < device.zones());
+    assert!(rt; device.kind(z) == Kind::Conventional);
+    assert_eq!(rt; device.scrub(z, fill), Ok(()));
+}
+
 #[test]
 fn limits(rt: HostRuntime) -> Result<(), Fail> {
     let shape = Shape {
@@ -364,6 +372,100 @@ fn settles(rt: HostRuntime) -> Result<(), Fail> {
             (Call::Write(2, 0, 1), Err(DevError::TooManyActive)),
             (Call::Manage(1, ZoneOp::Close), Ok(())),
             (Call::Write(2, 0, 1), Ok(())),
+        ],
+    );
+    Ok(())
+}
+
+#[test]
+fn scrubs(rt: HostRuntime) -> Result<(), Fail> {
+    let shape = Shape {
+        zone_blocks: 3,
+        zone_capacity: 2,
+        max_open: 0,
+        max_active: 0,
+    };
+    let kinds = [Kind::Conventional, Kind::Conventional];
+    let mut device = MemDevice::new(rt.alloc(), &kinds, shape)?;
+    drive(
+        &rt,
+        &mut device,
+        &[
+            (Call::Write(0, 0, 7), Ok(())),
+            (Call::Flush, Ok(())),
+            (Call::Write(0, 1, 8), Ok(())),
+            (Call::Write(1, 1, 5), Ok(())),
+        ],
+    );
+    scrub(&rt, &mut device, 0, Some(9));
+    drive(
+        &rt,
+        &mut device,
+        &[
+            (Call::Read(0, 0, 7), Ok(())),
+            (Call::Read(0, 1, 9), Ok(())),
+            (Call::Read(0, 2, 0), Ok(())),
+            (Call::Read(1, 1, 5), Ok(())),
+            (Call::Write(0, 2, 6), Ok(())),
+        ],
+    );
+    scrub(&rt, &mut device, 0, None);
+    scrub(&rt, &mut device, 0, Some(4));
+    drive(
+        &rt,
+        &mut device,
+        &[
+            (Call::Read(0, 0, 7), Ok(())),
+            (Call::Read(0, 1, 9), Ok(())),
+            (Call::Read(0, 2, 6), Ok(())),
+        ],
+    );
+    Ok(())
+}
+
+#[test]
+fn rests(rt: HostRuntime) -> Result<(), Fail> {
+    let shape = Shape {
+        zone_blocks: 2,
+        zone_capacity: 2,
+        max_open: 1,
+        max_active: 2,
+    };
+    let kinds = [Kind::Sequential; 3];
+    let mut device = MemDevice::new(rt.alloc(), &kinds, shape)?;
+    drive(
+        &rt,
+        &mut device,
+        &[
+            (Call::Manage(0, ZoneOp::Open), Ok(())),
+            (Call::Report(0, told(0, true)), Ok(())),
+            (Call::Write(1, 0, 5), Err(DevError::TooManyOpen)),
+        ],
+    );
+    device.rest();
+    drive(
+        &rt,
+        &mut device,
+        &[
+            (Call::Report(0, told(0, false)), Ok(())),
+            (Call::Write(1, 0, 5), Ok(())),
+            (Call::Write(2, 0, 6), Ok(())),
+            (Call::Write(0, 0, 7), Err(DevError::TooManyActive)),
+            (Call::Manage(1, ZoneOp::Open), Ok(())),
+            (Call::Report(1, told(1, true)), Ok(())),
+        ],
+    );
+    device.rest();
+    drive(
+        &rt,
+        &mut device,
+        &[
+            (Call::Report(1, told(1, false)), Ok(())),
+            (Call::Write(2, 1, 8), Ok(())),
+            (Call::Report(2, told(2, false)), Ok(())),
+            (Call::Read(1, 0, 5), Ok(())),
+            (Call::Read(2, 1, 8), Ok(())),
+            (Call::Write(0, 0, 7), Ok(())),
         ],
     );
     Ok(())

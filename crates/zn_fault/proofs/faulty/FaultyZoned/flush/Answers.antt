@@ -1,13 +1,19 @@
 use Rattle.std.proofs.Common.{arith}
-use Rattle.zn_fault.proofs.Faults.{off_commanded, passed_commanded, struck_commanded}
+use Rattle.zn_truth.specs.Orders.{FlushAll}
+use Rattle.zn_fault.proofs.Faults.{off_commanded, lost_commanded, passed_commanded, struck_commanded, flush_lost}
 use Rattle.zn_fault.proofs.faulty.FaultyZoned.flush.Goals as goal
 
 pub returns-then-not-self : goal.returns-then-not-self
-returns-then-not-self g c = record { done = off_commanded _ (g.D.Zoned.state c.args.self.now.dev) _ _ _ (grind arith) c.requires.unspoilt }
+returns-then-not-self g c = record { done = off_commanded _ (g.D.Zoned.state c.args.self.now.dev) _ _ _ _ (grind arith) c.requires.unspoilt }
+
+pub returns-in-Some : goal.returns-in-Some
+returns-in-Some g c =
+    rw (c.go_off.ensures.reply, c.go_off.ensures.powered, c.go_off.ensures.used)
+    (record { done = lost_commanded FlushAll c.in-Some.armed.now c.lose_zones-reply.result (g.D.Zoned.state c.args.self.now.dev) (g.D.Zoned.state c.lose_zones-reply.new.dev) _ _ _ _ (flush_lost c.in-Some.armed.now c.lose_zones-reply.result (g.D.Zoned.state c.args.self.now.dev) (g.D.Zoned.state c.lose_zones-reply.new.dev) c.lose_zones-reply.ensures) (rw c.every-zones.ensures at c.in-Some.ensures) (grind arith) })
 
 pub returns-in-None : goal.returns-in-None
 returns-in-None g c =
-    record { done = passed_commanded _ _ _ _ _ _ _ _ _ c.flush.ensures.done (rw c.every.ensures at c.in-None.ensures) (grind arith) (g.met.D.Harm.is_calm c.args.self.now.dev) (g.met.D.Harm.is_faultless c.args.self.now.dev) (g.met.D.Harm.is_faultless c.flush.new.self) }
+    record { done = passed_commanded _ _ _ _ _ _ _ _ _ _ c.flush.ensures.done (rw c.every-zones.ensures at c.in-None.ensures) (rw c.every-zones.ensures at c.in_default.ensures) (grind arith) (g.met.D.Harm.is_calm c.args.self.now.dev) (g.met.D.Harm.is_faultless c.args.self.now.dev) (g.met.D.Harm.is_faultless c.flush.new.self) }
 
-pub returns-in-Some : goal.returns-in-Some
-returns-in-Some g c = record { done = struck_commanded _ _ _ _ _ _ _ _ _ _ c.flush_in_part.ensures (rw c.every.ensures at c.in-Some.ensures) (grind arith) }
+pub returns-in-Some-strike : goal.returns-in-Some-strike
+returns-in-Some-strike g c = record { done = struck_commanded _ _ _ _ _ _ _ _ _ _ _ c.flush_in_part.ensures (rw c.every-zones.ensures at c.in-Some-strike.ensures) (rw c.every-zones.ensures at c.in_default.ensures) (grind arith) }
