@@ -16,3 +16,4 @@ pub mod Carried
 pub mod Fronts
 pub mod Requests
 pub mod ToldZones
+pub mod LosingPower

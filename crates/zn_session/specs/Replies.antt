@@ -4,13 +4,15 @@ use Rattle.std.specs.Fmt.{decimal}
 use Rattle.std.specs.List.{flat_map, enumerate_from}
 use Rattle.zn_model.specs.declared.limits.TheConstants.{MOST_BYTES}
 use Rattle.zn_base.specs.Texts.{◌⧺◌}
-use Rattle.zn_lines.specs.ReplyTexts.{refusal_name, mount_error_name, format_error_name, option_error_name, inject_error_name, not_built, error_text, ok_text, number_text, read_text, stat_text, list_text, attr_text}
+use Rattle.zn_lines.specs.ReplyTexts.{refusal_name, mount_error_name, format_error_name, option_error_name, inject_error_name}
+use Rattle.zn_lines.specs.ReplyTexts.{not_built, error_text, ok_text, number_text, read_text, stat_text, list_text, attr_text}
 use Rattle.zn_truth.specs.Inject.{InjectReply}
 use Rattle.zn_model.specs.ZoneFiles.{names_to}
 use Rattle.zn_model.specs.ZoneTexts.{zone_text}
 use Rattle.zn_session.specs.declared.replies.Reply.{Reply}
 use Rattle.zn_session.specs.declared.replies.Reply.TheVariants.{NotMounted, AlreadyMounted, HandleInUse, BadLabel, BadUuid, NotBuilt}
-use Rattle.zn_session.specs.declared.replies.Reply.TheVariants.{Refused, OptionRefused, FormatRefused, MountRefused, InjectRefused, Done, Number, Bytes}
+use Rattle.zn_session.specs.declared.replies.Reply.TheVariants.{Refused, OptionRefused, FormatRefused, MountRefused}
+use Rattle.zn_session.specs.declared.replies.Reply.TheVariants.{InjectRefused, Done, Number, Bytes}
 use Rattle.zn_session.specs.declared.replies.Reply.TheVariants.{Told, Directories, Names, Attributes, Zones}
 use Rattle.zn_session.specs.declared.room.Room.{Room}
 use Rattle.zn_session.specs.declared.room.ZoneTold.{ZoneTold}

@@ -1,7 +1,8 @@
 // The lines that harm the device, with or without a volume on it.
 ghost use Rattle.std.specs.Prelude.{◌≡◌, ◌<◌, ◌^◌, ℕ, List, Option, length, false, Ok, IsSome, MatchOption};
 ghost use Rattle.zn_truth.specs.declared.Armed.{Armed};
-ghost use Rattle.zn_truth.specs.Inject.{InjectReply, is_zone, inject as injected, turn as turned, lose_power as lost, arm_loss as armed, power_on as powered_on};
+ghost use Rattle.zn_truth.specs.Inject.{InjectReply, is_zone, inject as injected, turn as turned};
+ghost use Rattle.zn_truth.specs.Inject.{lose_power as lost, arm_loss as armed, power_on as powered_on};
 ghost use Rattle.zn_lines.specs.Lines.{FaultOn, TurnTo, PowerLoss, PowerLossIn, PowerOn};
 ghost use Rattle.zn_lines.specs.Session.{line_now};
 ghost use Rattle.zn_script.specs.Cuts.{cuts_meant, AreCutWords};
@@ -151,7 +152,8 @@ fn arm_loss<D: Injects + Drop>(
 ) -> Result<(), InjectError>
     requires there { IsSome held.old }
     requires unspoilt { (held_by D.state held.old).device.spoilt ≡ false }
-    ensures harms { let waits : Armed = record { zone = zone; command = command; carried_out = done; loss = loss.now } in
+    ensures harms { let waits : Armed =
+            record { zone = zone; command = command; carried_out = done; loss = loss.now } in
         Harms (armed (held_by D.state held.old).device.world waits) result
         (held_by D.state held.old) (held_by D.state held.new) }
     ensures there { IsSome held.new }

@@ -5,6 +5,7 @@ mod calls;
 mod formats;
 mod held;
 mod injecting;
+pub mod laws;
 mod replies;
 mod reporting;
 mod room;

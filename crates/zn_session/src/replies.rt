@@ -10,7 +10,8 @@ ghost use Rattle.zn_lines.specs.ReplyTexts.{file_text, directory_text, octal_tex
 ghost use Rattle.std.specs.Fmt.{decimal};
 ghost use Rattle.zn_model.specs.declared.limits.TheConstants.{MOST_BYTES};
 ghost use Rattle.zn_model.specs.ZoneFiles.{names_to};
-ghost use Rattle.zn_session.specs.Replies.{kept_in, text_of, front_text, told_line, told_zones, IsWritable, directory_names};
+ghost use Rattle.zn_session.specs.Replies.{kept_in, text_of, front_text, told_line, told_zones, IsWritable};
+ghost use Rattle.zn_session.specs.Replies.{directory_names};
 
 use crate::room::{Room, ZoneTold};
 use zn_base::{Part, Sink, WriteFault, write_all, write_parts, write_runs};

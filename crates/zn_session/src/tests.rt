@@ -472,6 +472,109 @@ fn faults_wait(rt: HostRuntime) -> Result<(), Fail> {
     tells(&rt, alloc, device(alloc, Kind::Conventional)?, script, told)
 }
 
+/// The zones of a device, with a volume on it and without one, with power and without. Zone 4294967296 isn't zone 0.
+#[test]
+fn zones_are_told(rt: HostRuntime) -> Result<(), Fail> {
+    let alloc = rt.alloc();
+    let script = "zones\n\
+                  mkfs\n\
+                  mount\n\
+                  open 0 seq/0 rw\n\
+                  write 0 0 61*4096\n\
+                  turn 1 ro\n\
+                  turn 3 off\n\
+                  fault 3 report\n\
+                  zones\n\
+                  zones\n\
+                  power-loss 2:1\n\
+                  zones\n\
+                  size 0\n\
+                  mount\n\
+                  power-loss 4294967296:0\n\
+                  power-on\n\
+                  power-loss 4294967296:0\n\
+                  power-loss-in 4294967296 write\n\
+                  power-loss-in 2 write 4294967296:0\n\
+                  umount\n\
+                  zones\n";
+    let told = "ok 4\n\
+                zone 0 cnv good 2 2 -\n\
+                zone 1 cnv good 2 2 -\n\
+                zone 2 seq good 0 2 -\n\
+                zone 3 seq good 0 2 -\n\
+                ok\n\
+                ok\n\
+                ok\n\
+                ok\n\
+                ok\n\
+                ok\n\
+                ok\n\
+                error io-error\n\
+                ok 4\n\
+                zone 0 cnv good 2 2 super\n\
+                zone 1 cnv read-only 2 2 cnv/0\n\
+                zone 2 seq good 1 2 seq/0\n\
+                zone 3 seq offline 0 2 seq/1\n\
+                ok\n\
+                error power-lost\n\
+                error not-mounted\n\
+                error power-lost\n\
+                error power-lost\n\
+                ok\n\
+                error bad-fault\n\
+                error bad-fault\n\
+                error bad-fault\n\
+                error not-mounted\n\
+                ok 4\n\
+                zone 0 cnv good 2 2 -\n\
+                zone 1 cnv read-only 2 2 -\n\
+                zone 2 seq good 1 2 -\n\
+                zone 3 seq offline 0 2 -\n";
+    tells(&rt, alloc, device(alloc, Kind::Conventional)?, script, told)
+}
+
+/// The power goes inside a write, of which one block is left, filled. Nothing is mounted when it comes back, and no
+/// number has a handle. Requests can't be queued yet.
+#[test]
+fn the_power_goes_inside_a_write(rt: HostRuntime) -> Result<(), Fail> {
+    let alloc = rt.alloc();
+    let script = "mkfs\n\
+                  mount\n\
+                  open 0 seq/0 rw\n\
+                  power-loss-in 2 write fill=ee 2:1\n\
+                  power-loss-in 2 read\n\
+                  write 0 0 61*8192\n\
+                  power-on\n\
+                  power-on\n\
+                  size 0\n\
+                  mount\n\
+                  size 0\n\
+                  open 0 seq/0 r\n\
+                  read 0 0 8192\n\
+                  submit 0 0 61*4096\n\
+                  submit 1 0 61*4096\n\
+                  complete\n\
+                  reap\n";
+    let told = "ok\n\
+                ok\n\
+                ok\n\
+                ok\n\
+                error bad-fault\n\
+                error power-lost\n\
+                ok\n\
+                ok\n\
+                error not-mounted\n\
+                ok\n\
+                error bad-handle\n\
+                ok\n\
+                ok 4096 ee*4096\n\
+                error not-built\n\
+                error bad-handle\n\
+                error not-built\n\
+                error not-built\n";
+    tells(&rt, alloc, device(alloc, Kind::Conventional)?, script, told)
+}
+
 /// A device that doesn't tell its bytes is formatted, mounted and read, and fails.
 #[test]
 fn a_quiet_device_is_read(rt: HostRuntime) -> Result<(), Fail> {

@@ -77,7 +77,7 @@ powered_tells : (b : Bool) (w : World) (x : Outcome) → w.powered ≡ b → Ord
 powered_tells true w x is h = h
 powered_tells false w x is h = sym (ap not is)
 
-order_tells : (w : World) (order : Order) → OrderTells (issue w order)
+pub order_tells : (w : World) (order : Order) → OrderTells (issue w order)
 unfolding issue
 order_tells w order = powered_tells w.powered w (issue_armed w order w.armed) refl (armed_tells w order w.armed)
 
@@ -89,7 +89,7 @@ first_tells : (r : Reply) (first second : Outcome) → first.reply ≡ r → Ord
 first_tells (Ok unit) first second is h k = k (done_on (Ok unit) first is h refl)
 first_tells (Err error) first second is h k = h
 
-orders_tell : (w : World) (orders : List Order) → w.powered ≡ true → OrderTells (issue_all w orders)
+pub orders_tell : (w : World) (orders : List Order) → w.powered ≡ true → OrderTells (issue_all w orders)
 orders_tell w [] on = sym (ap not on)
 orders_tell w (order ∷ orders) on =
     first_tells (issue w order).reply (issue w order) (issue_all (issue w order).world orders) refl (order_tells w order) (λ on'. orders_tell (issue w order).world orders on')

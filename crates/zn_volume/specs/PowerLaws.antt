@@ -20,7 +20,8 @@ pub record TellsPower {X : Type 0} (answer : Answer X) : Type 0 where
 -- So is each call, on every mounted volume: whether the power was off before, or went inside one of the call's
 -- commands, or inside the report of a recovery.
 pub record LossIsToldByCalls : Type 0 where
-  pub opens : (m : Mounted) (key : ℕ) (path : List ℕ) (mode : Mode) (who : Who) → TellsPower (open_call m key path mode who)
+  pub opens : (m : Mounted) (key : ℕ) (path : List ℕ) (mode : Mode) (who : Who)
+    → TellsPower (open_call m key path mode who)
   pub closes : (m : Mounted) (h : Handle) → TellsPower (close_call m h)
   pub size : (m : Mounted) (h : Handle) → TellsPower (size_call m h)
   pub reads : (given : List ℕ) (m : Mounted) (h : Handle) (offset len : ℕ) → TellsPower (read_call given m h offset len)

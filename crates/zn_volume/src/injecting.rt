@@ -1,7 +1,8 @@
 // Scripted faults, turns of condition, and losses and return of power on a mounted device.
 ghost use Rattle.std.specs.Prelude.{◌≡◌, false};
 ghost use Rattle.zn_truth.specs.declared.Armed.{Armed};
-ghost use Rattle.zn_truth.specs.Inject.{inject as injected, turn as turned_by, lose_power as lost_by, arm_loss as armed_by, power_on as powered_on};
+ghost use Rattle.zn_truth.specs.Inject.{inject as injected, turn as turned_by, lose_power as lost_by};
+ghost use Rattle.zn_truth.specs.Inject.{arm_loss as armed_by, power_on as powered_on};
 ghost use Rattle.zn_device.specs.Harms.{Injecting};
 
 use crate::volume::Volume;
@@ -39,8 +40,8 @@ impl<D: Injects + Drop> Volume<D> {
     /// `change` and `place`.
     ///
     /// Refused as `PowerLost` without power, and as `BadFault` for a cut of a zone that isn't there, is conventional or
-    /// is named twice, or to a length that isn't between what is durable and what is held. `Broken` and `Memory` are the
-    /// device's, and the power stays on; after these two no call may follow.
+    /// is named twice, or to a length that isn't between what is durable and what is held. `Broken` and `Memory` are
+    /// the device's, and the power stays on; after these two no call may follow.
     pub fn lose_power(&mut self, loss: &LossSpec) -> Result<(), InjectError>
         requires unspoilt { self.old.device.spoilt ≡ false }
         ensures lost { Injecting (lost_by self.old.device.world loss.now) result self.old.device self.new.device }
@@ -61,10 +62,12 @@ impl<D: Injects + Drop> Volume<D> {
         done: bool,
         loss: &LossSpec,
     ) -> Result<(), InjectError>
-        ensures reply { let armed : Armed = record { zone = z; command = command; carried_out = done; loss = loss.now } in
-            result ≡ (armed_by self.old.device.world armed).reply }
-        ensures waits { let armed : Armed = record { zone = z; command = command; carried_out = done; loss = loss.now } in
-            let world = (armed_by self.old.device.world armed).world in
+        ensures reply { let waits : Armed =
+                record { zone = z; command = command; carried_out = done; loss = loss.now } in
+            result ≡ (armed_by self.old.device.world waits).reply }
+        ensures waits { let waits : Armed =
+                record { zone = z; command = command; carried_out = done; loss = loss.now } in
+            let world = (armed_by self.old.device.world waits).world in
             self.new ≡ record self.old { device = record self.old.device { world = world } } }
     {
         self.dev.arm_loss(z, command, done, loss)

@@ -158,8 +158,8 @@ impl<D: Zoned + Drop> Volume<D> {
         active
     }
 
-    /// Tells what each zone is, by one report of all zones. It takes no memory, and no recovery follows its failure. Where
-    /// it is refused, nothing is said of `out`.
+    /// Tells what each zone is, by one report of all zones. It takes no memory, and no recovery follows its failure.
+    /// Where it is refused, nothing is said of `out`.
     ///
     /// Refused as `PowerLost` without power. A failed command is told as `IoError`, `PowerLost`, `Broken` or `Memory`.
     #[tactic(auto, using(crate::proofs::Causing::still_caused))]

@@ -1,6 +1,7 @@
 ghost use Rattle.std.specs.Prelude.{◌≡◌, false};
 
 use super::{Call, carry_out, device, is_answered, is_told, told, turned};
+use std::cmp::min;
 use std::process::Abort;
 use std::test::Fail;
 use zn_device::{Injects, Zoned};
@@ -95,6 +96,20 @@ fn take_steps<D: Injects>(rt: &impl Abort, device: &mut D, steps: &[Step<'_>])
     }
 }
 
+/// Reads the blocks of a zone from one on, up to another, in which each byte must be this one.
+fn read_blocks<D: Injects>(rt: &impl Abort, device: &mut D, zone: u32, from: u32, to: u32, byte: u8)
+    requires { (D.state device.old).spoilt ≡ false }
+    ensures { (D.state device.new).spoilt ≡ false }
+{
+    for block in from..to {
+        take_step(
+            rt,
+            device,
+            Step::Call(Call::Read(zone, block, byte), Ok(())),
+        );
+    }
+}
+
 /// Zone 1 holds four blocks, of which two are durable, zone 2 holds three, of which none is.
 const WRITTEN: [Step<'static>; 4] = [
     Step::Call(Call::Write(1, 0, 2, 7), Ok(())),
@@ -132,13 +147,7 @@ fn cuts_at_each_length(rt: HostRuntime) -> Result<(), Fail> {
                     Step::Call(Call::Read(2, 0, fill.unwrap_or(5)), Ok(())),
                 ],
             );
-            for block in 2..cut {
-                take_step(
-                    &rt,
-                    &mut device,
-                    Step::Call(Call::Read(1, block, byte), Ok(())),
-                );
-            }
+            read_blocks(&rt, &mut device, 1, 2, cut, byte);
             take_step(
                 &rt,
                 &mut device,
@@ -315,14 +324,8 @@ fn inside_a_write(rt: HostRuntime) -> Result<(), Fail> {
                     Step::Call(Call::Report(1, 1, told(held, false)), Ok(())),
                 ],
             );
-            for block in 2..held {
-                let byte = if block < 4 { old } else { new };
-                take_step(
-                    &rt,
-                    &mut device,
-                    Step::Call(Call::Read(1, block, byte), Ok(())),
-                );
-            }
+            read_blocks(&rt, &mut device, 1, 2, min(held, 4), old);
+            read_blocks(&rt, &mut device, 1, 4, held, new);
         }
     }
     Ok(())
