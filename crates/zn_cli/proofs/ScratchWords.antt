@@ -1,5 +1,5 @@
 -- What `clap` makes of the words of `scratch`.
-use Rattle.std.proofs.Common.{◌≡◌, ◌∙◌, ℕ, ◌&&◌, Bool, true, false, List, [], ◌∷◌, map, Option, Some, None, is_some, IsSome, codes, refl, ap, ap₂, arith}
+use Rattle.std.proofs.Common.{◌≡◌, ◌∙◌, ℕ, ◌&&◌, Bool, true, false, List, [], ◌∷◌, map, Option, Some, None, is_some, IsSome, refl, ap, ap₂, arith}
 use Rattle.std.specs.List.{list_all}
 use Rattle.std.proofs.lemmas.Bool.{and_parts}
 use Rattle.clap.specs.Simple.{Shape, built, entered, matches_of}
@@ -11,14 +11,14 @@ use Rattle.clap.proofs.WalkLemmas.{first_value-rows}
 use Rattle.zn_base.specs.Decimals.{number_in}
 use Rattle.zn_truth.specs.declared.limits.TheConstants.{MAX_BLOCKS, MAX_ZONES}
 use Rattle.zn_lines.specs.Scratch.{scratch_by}
-use Rattle.zn_cli.specs.Words.{are_values, found_at, is_value, scratch_app, scratch_of}
+use Rattle.zn_cli.specs.Words.{are_values, found_at, is_value, scratch_app, scratch_of, scratch_places}
 use Rattle.zn_cli.proofs.Values.{not_number, placed, value_goes, value_walked, values_split}
 
 -- ---- three values
 
 -- the texts in their places, by the rows of the matches
 abbrev first_texts : List Row → List (Option Text)
-first_texts rows = first_of (codes "ZONES") rows ∷ first_of (codes "CONV") rows ∷ first_of (codes "BLOCKS") rows ∷ []
+first_texts rows = map (λ place. first_of place rows) scratch_places
 
 abbrev top : Shape
 top = (built scratch_app).top
@@ -82,12 +82,14 @@ values_taken = three_words (λ words. takes scratch_app words ≡ true) three_ta
 values_placed : (words : List Text) → are_values 3 words ≡ true → first_texts (matches_of scratch_app words) ≡ map Some words
 values_placed = three_words (λ words. first_texts (matches_of scratch_app words) ≡ map Some words) three_placed
 
+same_found : (matches : ArgMatches) (places : List Text) → map (λ place. first_value (found_of matches) place) places ≡ map (λ place. first_of place (rows_of (found_of matches))) places
+same_found matches [] = refl
+same_found matches (place ∷ places) = ap₂ (λ (x : Option Text) (xs : List (Option Text)). x ∷ xs) (first_value-rows (found_of matches) place) (same_found matches places)
+
 pub values_found : (words : List Text) (matches : ArgMatches) → are_values 3 words ≡ true → rows_of (found_of matches) ≡ matches_of scratch_app words
     → found_at matches ≡ map Some words
 values_found words matches are rows =
-    let first : (id : Text) → first_value (found_of matches) id ≡ first_of id (rows_of (found_of matches)) = first_value-rows (found_of matches) in
-    ap₂ (λ (a b : Option Text). a ∷ b ∷ first_value (found_of matches) (codes "BLOCKS") ∷ []) (first (codes "ZONES")) (first (codes "CONV"))
-    ∙ ap (λ (c : Option Text). first_of (codes "ZONES") (rows_of (found_of matches)) ∷ first_of (codes "CONV") (rows_of (found_of matches)) ∷ c ∷ []) (first (codes "BLOCKS"))
+    same_found matches scratch_places
     ∙ ap first_texts rows ∙ values_placed words are
 
 -- So each of them is there.

@@ -1,5 +1,5 @@
 -- The words of a command, but for its name. (own)
-use Rattle.std.specs.Prelude.{ℕ, ◌==◌, ◌&&◌, Bool, true, false, not, List, [], ◌∷◌, length, Option, None, codes}
+use Rattle.std.specs.Prelude.{ℕ, ◌==◌, ◌&&◌, Bool, true, false, not, List, [], ◌∷◌, length, map, fold, Option, None, codes}
 use Rattle.std.specs.List.{list_all}
 use Rattle.clap.specs.Words.{App, Rule, first_value, found_of, new_app, new_rule, with_rule}
 use Rattle.clap.specs.declared.ArgMatches.{ArgMatches}
@@ -39,13 +39,18 @@ abbrev pub bare_command : List ℕ → App
 bare_command name =
     let app = new_app name in record app { top = record app.top { no_binary_name = true; disable_help_flag = true } }
 
--- three texts, and no flag
+-- a command of texts that must be there, and of no flag
+abbrev pub texts_command : List ℕ → List (List ℕ) → App
+texts_command name places = fold (λ app place. with_rule app (required_text place)) (bare_command name) places
+
+-- the places of `scratch`, in the order of the command line
+abbrev pub scratch_places : List (List ℕ)
+scratch_places = codes "ZONES" ∷ codes "CONV" ∷ codes "BLOCKS" ∷ []
+
+-- the command `scratch`
 abbrev pub scratch_app : App
-scratch_app =
-    with_rule (with_rule (with_rule (bare_command (codes "scratch")) (required_text (codes "ZONES"))) (required_text (codes "CONV"))) (required_text (codes "BLOCKS"))
+scratch_app = texts_command (codes "scratch") scratch_places
 
 -- what a parse found in these places
 abbrev pub found_at : ArgMatches → List (Option (List ℕ))
-found_at matches =
-    first_value (found_of matches) (codes "ZONES") ∷ first_value (found_of matches) (codes "CONV")
-    ∷ first_value (found_of matches) (codes "BLOCKS") ∷ []
+found_at matches = map (λ place. first_value (found_of matches) place) scratch_places
