@@ -201,7 +201,7 @@ all_noted held infos zones n len all noted =
     let entries = enumerate_from 0 infos in
     ext_get_or no_told zones (map (told_of held) entries) (len ∙ sym (length-map entries (told_of held) ∙ length-enumerate_from 0 infos))
     (λ k below.
-        let there : k < length infos = omega (arith, below, len) in
-        noted.each k no_told no_info (omega (arith, there, all))
-        ∙ sym (get_or-map (told_of held) entries k (0, no_info) no_told (omega (arith, there, length-enumerate_from 0 infos))
-        ∙ ap (told_of held) (get_or-enumerate_from 0 infos k (0, no_info) there ∙ ap (λ (j : ℕ). let entry : ℕ × ZoneInfo = (j, get_or infos k no_info) in entry) (zero-add k))))
+    let there : k < length infos = omega (arith, below, len) in
+    noted.each k no_told no_info (omega (arith, there, all))
+    ∙ sym (get_or-map (told_of held) entries k (0, no_info) no_told (omega (arith, there, length-enumerate_from 0 infos))
+    ∙ ap (told_of held) (get_or-enumerate_from 0 infos k (0, no_info) there ∙ ap (λ (j : ℕ). let entry : ℕ × ZoneInfo = (j, get_or infos k no_info) in entry) (zero-add k))))

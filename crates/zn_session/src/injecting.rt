@@ -153,7 +153,7 @@ fn arm_loss<D: Injects + Drop>(
     requires there { IsSome held.old }
     requires unspoilt { (held_by D.state held.old).device.spoilt ≡ false }
     ensures harms { let waits : Armed =
-            record { zone = zone; command = command; carried_out = done; loss = loss.now } in
+        record { zone = zone; command = command; carried_out = done; loss = loss.now } in
         Harms (armed (held_by D.state held.old).device.world waits) result
         (held_by D.state held.old) (held_by D.state held.new) }
     ensures there { IsSome held.new }

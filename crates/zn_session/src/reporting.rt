@@ -74,11 +74,7 @@ fn told_of<D: Zoned + Drop>(held: &Option<Held<D>>, z: u32, info: &ZoneInfo) -> 
 }
 
 /// Notes what is told of all zones, of which a report told this.
-fn note_zones<D: Zoned + Drop>(
-    held: &Option<Held<D>>,
-    infos: &[ZoneInfo],
-    zones: &mut [ZoneTold],
-)
+fn note_zones<D: Zoned + Drop>(held: &Option<Held<D>>, infos: &[ZoneInfo], zones: &mut [ZoneTold])
     requires there { IsSome held.now }
     requires infos { length infos.now ≡ zones_in (held_by D.state held.now) }
     requires zones { length zones.old ≡ zones_in (held_by D.state held.now) }

@@ -80,10 +80,7 @@ fn no_handles(alloc: Global) -> Result<Vec<Option<Handle>>, AllocError>
 }
 
 /// All the memory that a session keeps: the handles of its numbers, and room for its calls and reports.
-fn take_parts<D: Zoned>(
-    alloc: Global,
-    dev: &D,
-) -> Result<(Vec<Option<Handle>>, Room), AllocError>
+fn take_parts<D: Zoned>(alloc: Global, dev: &D) -> Result<(Vec<Option<Handle>>, Room), AllocError>
     ensures numbers { IfOk result (λ parts. parts.0.items ≡ no_numbers) }
     ensures room { IfOk result (λ parts. HasRoom (length (geometry_of (D.state dev.now).world).kinds) parts.1) }
 {

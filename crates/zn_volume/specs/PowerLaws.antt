@@ -21,7 +21,7 @@ pub record TellsPower {X : Type 0} (answer : Answer X) : Type 0 where
 -- commands, or inside the report of a recovery.
 pub record LossIsToldByCalls : Type 0 where
   pub opens : (m : Mounted) (key : ℕ) (path : List ℕ) (mode : Mode) (who : Who)
-    → TellsPower (open_call m key path mode who)
+      → TellsPower (open_call m key path mode who)
   pub closes : (m : Mounted) (h : Handle) → TellsPower (close_call m h)
   pub size : (m : Mounted) (h : Handle) → TellsPower (size_call m h)
   pub reads : (given : List ℕ) (m : Mounted) (h : Handle) (offset len : ℕ) → TellsPower (read_call given m h offset len)

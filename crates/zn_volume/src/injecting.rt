@@ -63,10 +63,10 @@ impl<D: Injects + Drop> Volume<D> {
         loss: &LossSpec,
     ) -> Result<(), InjectError>
         ensures reply { let waits : Armed =
-                record { zone = z; command = command; carried_out = done; loss = loss.now } in
+            record { zone = z; command = command; carried_out = done; loss = loss.now } in
             result ≡ (armed_by self.old.device.world waits).reply }
         ensures waits { let waits : Armed =
-                record { zone = z; command = command; carried_out = done; loss = loss.now } in
+            record { zone = z; command = command; carried_out = done; loss = loss.now } in
             let world = (armed_by self.old.device.world waits).world in
             self.new ≡ record self.old { device = record self.old.device { world = world } } }
     {
