@@ -25,7 +25,7 @@ pub fn cut_of(cuts: &Cuts, z: ZoneNo) -> Option<u32>
     None
 }
 
-/// The same loss again.
+/// A copy of the loss.
 pub fn copied(loss: &LossSpec) -> LossSpec
     ensures { result ≡ loss.now }
 {
@@ -104,7 +104,7 @@ fn is_outside<D: Harm>(dev: &mut D, cut: (ZoneNo, u32)) -> Result<bool, DevError
     Ok(blocks < dev.durable(zone) || held < blocks)
 }
 
-/// Whether one of the cuts is.
+/// Whether one of the cuts is to a length below what is durable, or above what is held.
 fn are_outside<D: Harm>(dev: &mut D, cuts: &Cuts) -> Result<bool, DevError>
     requires cuts { list_any (is_bad_cut (D.state dev.old).world.truth) cuts.now ≡ false }
     requires unspoilt { (D.state dev.old).spoilt ≡ false }

@@ -1,24 +1,23 @@
 // A device with faults and losses of power that a script asked for.
-ghost use Rattle.std.specs.Prelude.{◌≡◌, ◌&&◌, ◌||◌, not, [], None, false, true, is_err, is_some, MatchOption, IfOk, IfErr};
+ghost use Rattle.std.specs.Prelude.{◌≡◌, ◌&&◌, [], None, false, true, is_err, MatchOption, IfOk, IfErr};
 ghost use Rattle.zn_truth.specs.World.{geometry_of, command_of_op};
-ghost use Rattle.zn_truth.specs.Inject.{is_misplaced, are_bad_cuts, is_done_or_not};
 ghost use Rattle.zn_fault.specs.FaultState.{faulty_state, inner_state};
 ghost use Rattle.zn_fault.specs.Losses.{as_loss};
 ghost use Rattle.zn_fault.specs.Strikes.{Spares, Strikes};
 
 use crate::armed::Waiting;
-use crate::cuts::{are_bad_cuts, copied};
+use crate::cuts::copied;
 use crate::inside::{lose_in_manage, lose_in_write};
 use crate::losing::{lose, lose_zones};
 use crate::pending::Pending;
-use crate::refused::{is_bad_fault, is_done_or_not, is_misplaced};
+use crate::refused::{is_bad_arm, is_bad_fault};
 use crate::struck::{flush_in_part, write_in_part};
 use crate::turned::{harm_error, turn};
 use std::alloc::{AllocError, Global};
 use zn_device::{Harm, Injects, Zoned};
 use zn_truth::{
-    Armed, Command, Cond, Cuts, DevError, FaultSpec, InjectError, Kind, LossSpec, Shape, Span,
-    ZoneInfo, ZoneNo, ZoneOp,
+    Armed, Command, Cond, DevError, FaultSpec, InjectError, Kind, LossSpec, Shape, Span, ZoneInfo,
+    ZoneNo, ZoneOp,
 };
 
 /// A device with faults and losses of power that a script asked for, over one that has none. Only `new` takes memory.
@@ -120,26 +119,6 @@ fn strike(
     let fault = pending.take(command, zones)?;
     *faults = faults.saturating_add(1);
     Some(fault)
-}
-
-/// Whether a loss can't wait for the command: that can't come on the zone, a cut is bad, `done` is said of a command that
-/// is neither a reset nor a finish, or a loss waits already.
-fn is_bad_arm<D: Zoned>(
-    dev: &D,
-    armed: &Waiting,
-    z: ZoneNo,
-    command: Command,
-    done: bool,
-    cuts: &Cuts,
-) -> bool
-    ensures { let t = (D.state dev.now).world.truth in
-        result ≡ (is_misplaced t z.0 command || are_bad_cuts t cuts.now || (done && not (is_done_or_not command))
-        || is_some armed.now) }
-{
-    is_misplaced(dev, z, command)
-        || are_bad_cuts(dev, cuts)
-        || (done && !is_done_or_not(command))
-        || armed.is_some()
 }
 
 /// The loss that waited is used up. The power is off, unless the device within broke or lacked memory.

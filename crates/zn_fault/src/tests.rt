@@ -167,16 +167,23 @@ fn turn<D: Injects>(rt: &impl Abort, device: &mut D, turns: &[(u32, Cond, Result
     }
 }
 
-/// A conventional zone of six blocks and two sequential ones, without limits and without faults.
-fn device(alloc: Global) -> Result<Faulty<MemDevice>, AllocError> {
+/// A conventional zone of six blocks and two sequential ones, of which no more may be open or active, and no faults.
+fn limited(alloc: Global, most: u32) -> Result<Faulty<MemDevice>, AllocError>
+    requires { most ≤ 2 }
+{
     let shape = Shape {
         zone_blocks: 6,
         zone_capacity: 6,
-        max_open: 0,
-        max_active: 0,
+        max_open: most,
+        max_active: most,
     };
     let kinds = [Kind::Conventional, Kind::Sequential, Kind::Sequential];
     Faulty::new(alloc, MemDevice::new(alloc, &kinds, shape)?).map_err(|_| AllocError)
+}
+
+/// The same zones without limits.
+fn device(alloc: Global) -> Result<Faulty<MemDevice>, AllocError> {
+    limited(alloc, 0)
 }
 
 #[test]

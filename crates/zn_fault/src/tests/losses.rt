@@ -1,6 +1,6 @@
 ghost use Rattle.std.specs.Prelude.{◌≡◌, false};
 
-use super::{Call, carry_out, device, is_answered, is_told, told, turned};
+use super::{Call, carry_out, device, is_answered, is_told, limited, told, turned};
 use std::cmp::min;
 use std::process::Abort;
 use std::test::Fail;
@@ -383,6 +383,28 @@ fn inside_a_refused_write(rt: HostRuntime) -> Result<(), Fail> {
             ],
         );
     }
+    Ok(())
+}
+
+#[test]
+fn inside_a_write_within_limits(rt: HostRuntime) -> Result<(), Fail> {
+    let mut device = limited(rt.alloc(), 1)?;
+    take_steps(
+        &rt,
+        &mut device,
+        &[
+            Step::Arm(1, Command::Write, &[(1, 3)], Some(9), DONE),
+            Step::Call(Call::Write(1, 0, 3, 6), LOST),
+            Step::On,
+            Step::Call(Call::Report(1, 1, told(3, false)), Ok(())),
+            Step::Call(Call::Write(2, 0, 2, 5), Err(DevError::TooManyActive)),
+            Step::Arm(2, Command::Write, &[(2, 2)], Some(9), DONE),
+            Step::Call(Call::Write(2, 0, 2, 5), LOST),
+            Step::On,
+            Step::Call(Call::Report(2, 1, told(0, false)), Ok(())),
+        ],
+    );
+    read_blocks(&rt, &mut device, 1, 0, 3, 9);
     Ok(())
 }
 
