@@ -38,6 +38,7 @@ module _ (region links counts : List ℕ) (n : ℕ) (links_is : links ≡ range_
   count_long = ap length counts_is ∙ length-replicate n 0
 
   pub pool-fresh : pool_of region links counts 0 n ≡ all_free n
+  unfolding all_free
   pool-fresh =
       let free = ap (λ ls. chain ls 0 n) links_is ∙ chain-range n 0 n (omega arith) in
       let live = ap (leases_of region links) counts_is ∙ ap (λ k. map (λ first. lease_of region links first (get_or (replicate n 0) first 0)) (range_with_len 0 k)) (length-replicate n 0) ∙ none_leased region links n 0 n in
@@ -45,6 +46,7 @@ module _ (region links counts : List ℕ) (n : ℕ) (links_is : links ≡ range_
       ∙ ap (λ xs. let p : PoolState = record { free = range_with_len 0 n; live = xs } in p) live
 
   pub kept-fresh : length region ≡ BLOCK_SIZE * n → n < 2 ^ 32 → AreKept region links counts 0 n
+  unfolding all_free
   kept-fresh whole few =
       let all = pool_of region links counts 0 n in
       let parts : (all_free n).free ++ leased (all_free n) ≡ range_with_len 0 n =

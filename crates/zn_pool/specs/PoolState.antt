@@ -72,7 +72,7 @@ pub record IsParted (pool : PoolState) : Type 0 where
 -- ---- what calls leave
 
 -- so many blocks, all of them free, and no lease
-abbrev pub all_free : ℕ → PoolState
+unfoldable pub all_free : ℕ → PoolState
 all_free blocks = record { free = range_with_len 0 blocks; live = replicate blocks None }
 
 -- the first free block

@@ -69,6 +69,7 @@ impl Pool {
     /// Takes so many blocks, in as many steps.
     pub fn take(&mut self, n: u32) -> Option<Lease>
         requires { 1 ≤ n }
+
         // None exactly where fewer are free, and then nothing changes.
         ensures short { IsNone result ↔ (length self.old.free < n) }
         ensures none { IfNone result (self.new ≡ self.old) }
