@@ -1,0 +1,3 @@
+pub mod PoolState
+pub mod Chains
+pub mod Kept

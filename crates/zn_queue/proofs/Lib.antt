@@ -1,0 +1,5 @@
+pub mod LeaseLaws
+pub mod Backing
+pub mod Rotating
+pub mod Counting
+pub mod Submitting
