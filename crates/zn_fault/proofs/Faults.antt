@@ -4,14 +4,13 @@ use Rattle.std.specs.Prelude.{not, ◌&&◌, if◌then◌else◌, is_err, IsOk, 
 use Rattle.std.proofs.lemmas.Bool.{false≢true}
 use Rattle.zn_base.specs.Causes.{Rose}
 use Rattle.zn_truth.specs.declared.Armed.{Armed}
-use Rattle.zn_truth.specs.declared.DevError.{DevError}
 use Rattle.zn_truth.specs.declared.DevError.TheVariants.{Fault, PowerLost, Broken, Memory}
 use Rattle.zn_truth.specs.declared.FaultSpec.{FaultSpec}
 use Rattle.zn_truth.specs.declared.ZoneOp.{ZoneOp}
 use Rattle.zn_truth.specs.Truth.{Truth}
 use Rattle.zn_truth.specs.Orders.{Order, ReadAt, Manage, FlushAll, ReportFrom, Reply, Done}
 use Rattle.zn_truth.specs.Power.{lost, during}
-use Rattle.zn_truth.specs.World.{World, Outcome, geometry_of, issue, issue_armed, unarmed, powered_off, calm, command_of, zones_of, meets, met, unmet, struck, outcome, faulted}
+use Rattle.zn_truth.specs.World.{World, Outcome, geometry_of, issue, issue_armed, unarmed, powered_off, calm, command_of, zones_of, met, unmet, struck, outcome, faulted}
 use Rattle.zn_truth.specs.Obeying.{is_answered}
 use Rattle.zn_truth.proofs.Issuing.{calm_done}
 use Rattle.zn_device.specs.Causes.{is_refused}

@@ -1,6 +1,6 @@
 -- Writes one behind another.
-use Rattle.std.proofs.Common.{◌≡◌, ℕ, ◌+◌, ◌*◌, ◌/◌, ◌<◌, ◌≤◌, Bool, true, false, cond, List, [], ◌++◌, length, get_or, set, Option, Some, None, Ok, Err, refl, sym, ap, ◌∙◌, subst, append_assoc, arith}
-use Rattle.std.specs.Prelude.{◌==◌, ◌&&◌, not, count_by, if◌then◌else◌}
+use Rattle.std.proofs.Common.{◌≡◌, ℕ, ◌+◌, ◌*◌, ◌/◌, ◌<◌, Bool, true, false, cond, List, [], ◌++◌, length, set, Option, Some, None, Ok, refl, sym, ap, ◌∙◌, append_assoc, arith}
+use Rattle.std.specs.Prelude.{◌==◌, ◌&&◌, not, if◌then◌else◌}
 use Rattle.std.proofs.lemmas.Bool.Decides.{nat_tests}
 use Rattle.std.proofs.lemmas.List.{length-append, get_or-set_same, set-set}
 use Rattle.std.proofs.lemmas.List.Sums.{sum_by-set}
@@ -13,7 +13,6 @@ use Rattle.zn_truth.specs.declared.Kind.TheVariants.{Sequential}
 use Rattle.zn_truth.specs.declared.Shape.{Shape}
 use Rattle.zn_truth.specs.Truth.{Truth, Zone, no_zone, zone_at, with_zone, seen, active, explicit, is_reached}
 use Rattle.zn_truth.specs.Orders.{Order, WriteAt, Done, changing, opening, writing, refusal, written, effect, done, done_unless}
-use Rattle.zn_truth.specs.Obeying.{IsWhole}
 use Rattle.zn_fault.specs.Losses.{WritesJoin}
 
 -- ---- the refusal

@@ -1,6 +1,6 @@
 -- What zones lose one after another, and what a device that is harmed so holds.
-use Rattle.std.proofs.Common.{◌≡◌, ℕ, zero, suc, ◌+◌, ◌<◌, ◌≤◌, ◌≢◌, min, max, Bool, true, false, List, length, map, get_or, Option, Ok, Err, refl, sym, ap, ◌∙◌, subst, inl, inr, add-one, arith}
-use Rattle.std.specs.Prelude.{if◌then◌else◌, not, unwrap_or}
+use Rattle.std.proofs.Common.{◌≡◌, ℕ, zero, suc, ◌+◌, ◌<◌, ◌≤◌, ◌≢◌, min, max, Bool, false, List, length, Ok, Err, refl, sym, ap, ◌∙◌, subst, inl, inr, add-one, arith}
+use Rattle.std.specs.Prelude.{unwrap_or}
 use Rattle.std.proofs.Math.ListN.{get_or-map}
 use Rattle.std.proofs.lemmas.Bool.{cases_eq}
 use Rattle.std.proofs.lemmas.List.{length-map, length-set, get_or-set_same, get_or-set_other, ext_get_or}
@@ -20,7 +20,7 @@ use Rattle.zn_truth.proofs.SoundLoss.{length-zones_lost, get_or-zones_lost}
 use Rattle.zn_device.specs.Harms.{Harmed, scrubbed, rested}
 use Rattle.zn_device.specs.States.{DeviceState}
 use Rattle.zn_device.proofs.Harms.{rested-geometry}
-use Rattle.zn_fault.specs.Losses.{left_of, lost_at, lost_below, LossIsZoneByZone, is_bad_loss}
+use Rattle.zn_fault.specs.Losses.{left_of, lost_at, lost_below, LossIsZoneByZone}
 use Rattle.zn_fault.proofs.Harming.{then_harmed, truth_between, unharmed}
 
 -- ---- zones, one after another

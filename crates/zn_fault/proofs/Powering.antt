@@ -1,7 +1,6 @@
 -- Losses of power at rest, and losses that are to wait.
 use Rattle.std.proofs.Common.{◌≡◌, ℕ, Bool, true, false, List, Option, Some, Ok, Err, refl, sym, ap, ◌∙◌}
 use Rattle.std.specs.Prelude.{◌||◌, ◌&&◌, not, is_some, if◌then◌else◌, IsErrOf}
-use Rattle.std.specs.List.{list_any}
 use Rattle.std.proofs.lemmas.Bool.{false≢true, true≢false}
 use Rattle.zn_truth.specs.declared.Armed.{Armed}
 use Rattle.zn_truth.specs.declared.DevError.{DevError}
@@ -13,7 +12,7 @@ use Rattle.zn_truth.specs.Truth.{Truth}
 use Rattle.zn_truth.specs.Orders.{Reply}
 use Rattle.zn_truth.specs.Power.{lost}
 use Rattle.zn_truth.specs.World.{World, geometry_of}
-use Rattle.zn_truth.specs.Inject.{Injected, InjectReply, unless_bad, is_misplaced, are_bad_cuts, is_outside, is_done_or_not, lose_power, arm_loss}
+use Rattle.zn_truth.specs.Inject.{Injected, InjectReply, unless_bad, is_misplaced, are_bad_cuts, is_done_or_not, lose_power, arm_loss}
 use Rattle.zn_truth.specs.Obeying.{is_answered}
 use Rattle.zn_device.specs.Harms.{Harmed, Injecting, is_told}
 use Rattle.zn_device.specs.States.{DeviceState}

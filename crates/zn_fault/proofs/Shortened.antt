@@ -1,8 +1,8 @@
 -- Commands to a device without faults of its own, inside which the power goes.
-use Rattle.std.proofs.Common.{◌≡◌, ℕ, ◌+◌, ◌-◌, ◌*◌, ◌/◌, ◌<◌, ◌≤◌, min, max, Bool, true, false, List, [], ◌++◌, length, take, replicate, Option, Some, None, Ok, Err, nat_lt, refl, sym, ap, ◌∙◌, subst, ⊎_elim, arith}
-use Rattle.std.specs.Prelude.{if◌then◌else◌, not, unwrap_or, IsOk, IsErrOf}
+use Rattle.std.proofs.Common.{◌≡◌, ℕ, ◌+◌, ◌*◌, ◌/◌, ◌<◌, ◌≤◌, min, Bool, true, false, List, [], ◌++◌, length, take, replicate, Option, Some, None, Ok, Err, refl, sym, ap, ◌∙◌, subst, ⊎_elim, arith}
+use Rattle.std.specs.Prelude.{if◌then◌else◌, not, IsErrOf}
 use Rattle.std.proofs.lemmas.Bool.{false≢true, cases_lt}
-use Rattle.std.proofs.lemmas.List.{length-take, length-replicate, replicate-append-replicate, take_all}
+use Rattle.std.proofs.lemmas.List.{length-replicate, replicate-append-replicate, take_all}
 use Rattle.zn_truth.specs.declared.DevError.{DevError}
 use Rattle.zn_truth.specs.declared.DevError.TheVariants.{ReadOnly, Offline, Unaligned, TooManyActive, TooManyOpen, BeyondWp, Fault, PowerLost, Broken, Memory}
 use Rattle.zn_truth.specs.declared.Kind.{Kind}
@@ -14,9 +14,9 @@ use Rattle.zn_truth.specs.declared.ZoneOp.{ZoneOp}
 use Rattle.zn_truth.specs.declared.ZoneOp.TheVariants.{Open, Close, Reset, Finish}
 use Rattle.zn_truth.specs.Truth.{Truth, zone_at, with_zone, room, info_at, kind_at, is_sequential}
 use Rattle.zn_truth.specs.Orders.{Order, WriteAt, Manage, Reply, Done, refusal, done, done_unless}
-use Rattle.zn_truth.specs.Power.{settled, clamped, cut_of, stored, lost, cut_write, write_during, during}
+use Rattle.zn_truth.specs.Power.{settled, stored, lost, cut_write, write_during, during}
 use Rattle.zn_truth.specs.World.{World, Outcome, geometry_of, issue, calm, outcome}
-use Rattle.zn_truth.specs.Obeying.{is_answered, IsAnswered, IsWhole, Fits, IsZoneToManage}
+use Rattle.zn_truth.specs.Obeying.{is_answered, IsWhole, Fits, IsZoneToManage}
 use Rattle.zn_truth.proofs.Issuing.{kind_is, kinds-length}
 use Rattle.zn_device.specs.Causes.{is_refused}
 use Rattle.zn_device.specs.Harms.{Harmed}

@@ -1,9 +1,5 @@
-use Rattle.std.proofs.Common.{◌≡◌, ℕ, min, max, Option, sym, ap, ◌∙◌}
+use Rattle.std.proofs.Common.{ℕ, Option, ap, ◌∙◌}
 use Rattle.std.specs.Prelude.{unwrap_or}
-use Rattle.zn_truth.specs.Truth.{Truth, zone_at}
-use Rattle.zn_truth.specs.declared.ZoneInfo.{ZoneInfo}
-use Rattle.zn_truth.specs.Power.{clamped, cut_of}
-use Rattle.zn_fault.proofs.Harming.{truth_between}
 use Rattle.zn_fault.proofs.LossSteps.{cut_length, settle_lost}
 use Rattle.zn_fault.proofs.losing.lose_end.Goals as goal
 

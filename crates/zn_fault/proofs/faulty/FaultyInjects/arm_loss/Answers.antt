@@ -1,7 +1,6 @@
-use Rattle.std.proofs.Common.{◌≡◌, sym, ap, ◌∙◌, Option, Some}
+use Rattle.std.proofs.Common.{sym, ap, ◌∙◌, Option, Some}
 use Rattle.zn_truth.specs.declared.Armed.{Armed}
 use Rattle.zn_truth.specs.declared.LossSpec.{LossSpec}
-use Rattle.zn_truth.specs.World.{World}
 use Rattle.zn_truth.specs.Inject.{Injected}
 use Rattle.zn_device.specs.States.{DeviceState}
 use Rattle.zn_fault.specs.FaultState.{faulty_state}
