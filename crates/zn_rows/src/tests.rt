@@ -2,6 +2,7 @@ mod faults;
 mod policies;
 mod power;
 mod recovery;
+mod volumes;
 
 use std::alloc::{AllocError, Global};
 use std::process::Abort;
