@@ -1,1 +1,3 @@
 pub mod NameOrder
+pub mod TextMaps
+pub mod Stored

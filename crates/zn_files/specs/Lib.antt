@@ -9,3 +9,5 @@ pub mod MemStates
 pub mod Stores
 pub mod Sound
 pub mod Memory
+pub mod Images
+pub mod Traces

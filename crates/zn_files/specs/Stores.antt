@@ -1,5 +1,5 @@
 -- The files of a directory in memory, by name, and what is done to one of them. (own)
-use Rattle.std.specs.Prelude.{◌≡◌, ◌≢◌, ℕ, List, Option, String}
+use Rattle.std.specs.Prelude.{◌≡◌, ◌≢◌, ℕ, List, Option, Some, String}
 use Rattle.std.specs.BTreeMap.{BTreeMap, get_by_text}
 use Rattle.std.specs.Global.{Vec, Global}
 use Rattle.std.specs.Option.{option_map}
@@ -17,6 +17,11 @@ bytes_in files name = option_map (λ v. v.items) (get_by_text files name)
 -- the file of this name is changed, if it is there, and no other
 pub record ChangesStored (old new : Store) (name : Name) (change : List ℕ → List ℕ) : Type 0 where
   pub here : bytes_in new name ≡ option_map change (bytes_in old name)
+  pub others : (q : Name) → q ≢ name → bytes_in new q ≡ bytes_in old q
+
+-- a file of this name is there, with these bytes, and no other is changed
+pub record AddsStored (old new : Store) (name : Name) (bytes : List ℕ) : Type 0 where
+  pub here : bytes_in new name ≡ Some bytes
   pub others : (q : Name) → q ≢ name → bytes_in new q ≡ bytes_in old q
 
 -- no file is changed

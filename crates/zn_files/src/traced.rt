@@ -1,4 +1,9 @@
 // A file with what a stop may leave of it.
+ghost use Rattle.std.specs.Prelude.{◌≡◌, ◌≤◌, ℕ, false, ◌||◌, slice_index_or, vec_len, is_some, not, IfOk, OnOk};
+ghost use Rattle.std.specs.Option.{option_map};
+ghost use Rattle.zn_stand.specs.File.{File, created, written, resized, synced, is_between, value_left};
+ghost use Rattle.zn_files.specs.Images.{filled, left_by};
+
 use crate::Choice;
 use crate::bytes::put_bytes;
 use std::alloc::{AllocError, Global};
@@ -14,19 +19,34 @@ pub struct Traced {
 }
 
 /// Sets the flags of the places from one on, up to another.
-fn mark(flags: &mut Vec<bool>, from: usize, to: usize) -> Result<(), AllocError> {
+fn mark(flags: &mut Vec<bool>, from: usize, to: usize) -> Result<(), AllocError>
+    requires { from ≤ to }
+    ensures { OnOk result ((i : ℕ) → slice_index_or flags.new.items i false
+        ≡ (slice_index_or flags.old.items i false || is_between from to i)) }
+{
     if flags.len() < to {
         flags.resize(to, false)?;
     }
-    for flag in &mut flags[from..to] {
-        *flag = true;
+    for i in from..to {
+        flags[i] = true;
     }
     Ok(())
 }
 
+/// Whether the flag of a place is set.
+fn is_marked(flags: &Vec<bool>, i: usize) -> bool
+    ensures { result ≡ slice_index_or flags.now.items i false }
+{
+    i < flags.len() && flags[i]
+}
+
 impl Traced {
+    ghost use Rattle.zn_files.specs.Traces.{Traces};
+
     /// A file as it is created.
-    pub fn new(alloc: Global) -> Traced {
+    pub fn new(alloc: Global) -> Traced
+        ensures { Traces result created }
+    {
         Traced {
             bytes: Vec::new(alloc),
             at_sync: None,
@@ -35,21 +55,28 @@ impl Traced {
         }
     }
 
-    pub fn write(&mut self, at: usize, bytes: &[u8]) -> Result<(), AllocError> {
+    /// Writes bytes from `at` on.
+    pub fn write(&mut self, at: usize, bytes: &[u8]) -> Result<(), AllocError>
+        requires { at ≤ vec_len self.old.bytes }
+        ensures { OnOk result ((f : File) → Traces self.old f → Traces self.new (written f at bytes.now)) }
+    {
         put_bytes(&mut self.bytes, at, bytes)?;
         mark(&mut self.is_written, at, at + bytes.len())
     }
 
-    pub fn resize(&mut self, len: usize) -> Result<(), AllocError> {
+    /// Cuts the file, or grows it with zeros.
+    pub fn resize(&mut self, len: usize) -> Result<(), AllocError>
+        ensures { OnOk result ((f : File) → Traces self.old f → Traces self.new (resized f len)) }
+    {
         let old = self.bytes.len();
         self.bytes.resize(len, 0)?;
-        if old < len {
-            mark(&mut self.is_added, old, len)?;
-        }
-        Ok(())
+        mark(&mut self.is_added, old, len.max(old))
     }
 
-    pub fn sync(&mut self, alloc: Global) -> Result<(), AllocError> {
+    /// Makes the file durable.
+    pub fn sync(&mut self, alloc: Global) -> Result<(), AllocError>
+        ensures { OnOk result ((f : File) → Traces self.old f → Traces self.new (synced f)) }
+    {
         self.at_sync = Some(self.bytes.to_vec(alloc)?);
         self.is_written.clear();
         self.is_added.clear();
@@ -57,33 +84,41 @@ impl Traced {
     }
 
     /// Whether a stop may leave any byte at this place.
-    fn is_free(&self, i: usize) -> bool {
+    fn is_free(&self, i: usize) -> bool
+        ensures { (f : File) → Traces self.now f → result ≡ not (is_some (value_left f i)) }
+    {
         let synced = match &self.at_sync {
             Some(bytes) => bytes.len(),
             None => 0,
         };
-        let is_written = i < self.is_written.len() && self.is_written[i];
-        let is_added = i < self.is_added.len() && self.is_added[i];
-        is_written || (i < synced) == is_added
+        is_marked(&self.is_written, i) || (i < synced) == is_marked(&self.is_added, i)
+    }
+
+    /// The bytes with this value in place of each that a stop may leave as anything.
+    fn filled(&self, alloc: Global, value: u8) -> Result<Vec<u8>, AllocError>
+        ensures { IfOk result (λ bytes. (f : File) → Traces self.now f → bytes.items ≡ filled value f) }
+    {
+        let mut bytes = self.bytes.to_vec(alloc)?;
+        for i in 0..bytes.len() {
+            if self.is_free(i) {
+                bytes[i] = value;
+            }
+        }
+        Ok(bytes)
     }
 
     /// What is left of the file by this choice, if it is there.
-    pub fn left(&self, alloc: Global, choice: Choice) -> Result<Option<Vec<u8>>, AllocError> {
+    pub fn left(&self, alloc: Global, choice: Choice) -> Result<Option<Vec<u8>>, AllocError>
+        ensures { IfOk result (λ left. (f : File) → Traces self.now f
+            → option_map (λ v. v.items) left ≡ left_by choice f) }
+    {
         match choice {
             Choice::Least => match &self.at_sync {
                 Some(bytes) => Ok(Some(bytes.to_vec(alloc)?)),
                 None => Ok(None),
             },
             Choice::Most => Ok(Some(self.bytes.to_vec(alloc)?)),
-            Choice::Filled(value) => {
-                let mut bytes = self.bytes.to_vec(alloc)?;
-                for i in 0..bytes.len() {
-                    if self.is_free(i) {
-                        bytes[i] = value;
-                    }
-                }
-                Ok(Some(bytes))
-            }
+            Choice::Filled(value) => Ok(Some(self.filled(alloc, value)?)),
         }
     }
 }
