@@ -1,3 +1,5 @@
 pub mod NameOrder
 pub mod TextMaps
 pub mod Stored
+pub mod TracedFiles
+pub mod ReplayLaws

@@ -1,6 +1,6 @@
 -- Maps by name.
 use Rattle.std.proofs.Common.{◌≡◌, ◌⊎◌, inl, inr, ℕ, Bool, true, false, cond, List, Option, Some, None, Global, String, refl, sym, ap, ◌∙◌, subst, arith}
-use Rattle.std.specs.Prelude.{◌≢◌}
+use Rattle.std.specs.Prelude.{◌≢◌, is_some}
 use Rattle.std.specs.BTreeMap.{BTreeMap, UpdatesBy, get_by_text}
 use Rattle.std.specs.Map.{update}
 use Rattle.std.specs.Ordering.{is_eq, nat_cmp}
@@ -25,3 +25,7 @@ module _ {X : Type 0} (name : Name) (m n : BTreeMap (String Global) X) (w : Opti
     | inl same ↦ absurd (apart (sym same.0))
     | inr other ↦ ap (λ b. cond b w (get_by_text m q)) (sym (is_eq-slice_cmp name q) ∙ other.1)
   ]
+
+pub none_there : {X : Type 0} (o : Option X) (b : Bool) → b ≡ is_some o → b ≡ false → o ≡ None
+none_there None b is not_b = refl
+none_there (Some x) b is not_b = absurd (cc)

@@ -2,7 +2,7 @@
 use crate::images::{Choice, image_of};
 use crate::listed::{Listed, is_due, pass};
 use crate::record::{Change, Recorded};
-use crate::replay::{trace_given, trace_made};
+use crate::replay::trace_until;
 use crate::store::{Store, insert_stored, resize_stored, write_stored};
 use crate::{FileCall, FileError, Files, Names};
 use std::alloc::{AllocError, Global};
@@ -14,7 +14,7 @@ use std::collections::BTreeMap;
 pub struct MemFiles {
     alloc: Global,
     /// The calls that made it what it was at first.
-    given: Vec<Change>,
+    given: Vec<Recorded>,
     /// Those that changed it since.
     made: Vec<Recorded>,
     /// What a read gives.
@@ -80,8 +80,8 @@ impl MemFiles {
     /// calls is to fail.
     pub fn image(&self, calls: u64, choice: Choice) -> Result<MemFiles, AllocError> {
         let mut files = BTreeMap::new(self.alloc);
-        trace_given(self.alloc, &mut files, &self.given)?;
-        trace_made(self.alloc, &mut files, &self.made, calls)?;
+        trace_until(self.alloc, &mut files, &self.given, calls)?;
+        trace_until(self.alloc, &mut files, &self.made, calls)?;
         image_of(self.alloc, &files, choice)
     }
 
@@ -92,9 +92,9 @@ impl MemFiles {
         let sync = Change::Sync(String::from_str(self.alloc, name)?);
         self.given.reserve(3)?;
         insert_stored(self.alloc, &mut self.files, name, bytes)?;
-        self.given.push_reserved(create);
-        self.given.push_reserved(write);
-        self.given.push_reserved(sync);
+        for change in [create, write, sync] {
+            self.given.push_reserved(Recorded { number: 0, change });
+        }
         Ok(())
     }
 }
