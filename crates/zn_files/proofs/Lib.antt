@@ -3,3 +3,6 @@ pub mod TextMaps
 pub mod Stored
 pub mod TracedFiles
 pub mod ReplayLaws
+pub mod Rising
+pub mod MemCalls
+pub mod MemFirst

@@ -1,4 +1,19 @@
 // A directory in memory, whose calls fail by a list, and which keeps each call that changes it.
+ghost use Rattle.std.specs.Prelude.{◌≡◌, ◌+◌, ◌≤◌, ◌++◌, ◌∷◌, [], map, length, take, drop, Some, None, IfOk, OnOk, OnErr};
+ghost use Rattle.std.specs.Bool.{OnTrue, OnFalse};
+ghost use Rattle.std.specs.BTreeMap as tree;
+ghost use Rattle.std.specs.FinMap.{keys};
+ghost use Rattle.std.specs.String.{string_bytes, string_cmp};
+ghost use Rattle.zn_base.specs.Causes.{one_more};
+ghost use Rattle.zn_stand.specs.Directory.{Directory, contents, rested, IsImageOf};
+ghost use Rattle.zn_stand.specs.Calls.{TellNames, TellLen, ReadFrom, WriteFrom, SetLength, CreateFile, SyncFile};
+ghost use Rattle.zn_files.specs.Listed.{is_due, passed};
+ghost use Rattle.zn_files.specs.Record.{call_of, recorded_of};
+ghost use Rattle.zn_files.specs.Sound.{IsSoundMemory, sound_prop, sound_now};
+ghost use Rattle.zn_files.specs.Images.{image_by};
+ghost use Rattle.zn_files.specs.States.{directory, WhereTold, Called};
+ghost use Rattle.zn_files.specs.MemStates.{MemCalled, first, directory_after, files_state};
+
 use crate::images::{Choice, image_of};
 use crate::listed::{Listed, is_due, pass};
 use crate::record::{Change, Recorded};
@@ -24,16 +39,30 @@ pub struct MemFiles {
     /// How many calls there were, but for those that lacked memory.
     calls: u64,
     faults: u64,
+    ghost sound: { IsSoundMemory (map (λ r. call_of r.change) given.items) (map recorded_of made.items) files }
+        by { sound_prop (map (λ r. call_of r.change) given.items) (map recorded_of made.items) files },
 }
 
 /// Counts a call of this kind.
-fn count(listed: &mut Vec<Listed>, calls: &mut u64, call: FileCall) {
+fn count(listed: &mut Vec<Listed>, calls: &mut u64, call: FileCall)
+    ensures listed { listed.new.items ≡ passed listed.old.items call }
+    ensures calls { calls.new ≡ one_more calls.old }
+{
     pass(listed, call);
     *calls = calls.saturating_add(1);
 }
 
 /// Whether this call is to fail; then it is counted, and so is its fault.
-fn is_struck(listed: &mut Vec<Listed>, calls: &mut u64, faults: &mut u64, call: FileCall) -> bool {
+fn is_struck(listed: &mut Vec<Listed>, calls: &mut u64, faults: &mut u64, call: FileCall) -> bool
+    ensures due { result ≡ is_due listed.old.items call }
+    ensures listed { OnTrue result (listed.new.items ≡ passed listed.old.items call) }
+    ensures calls { OnTrue result (calls.new ≡ one_more calls.old) }
+    ensures faults { OnTrue result (faults.new ≡ one_more faults.old) }
+    ensures no_fewer { faults.old ≤ faults.new }
+    ensures listed_same { OnFalse result (listed.new.items ≡ listed.old.items) }
+    ensures calls_same { OnFalse result (calls.new ≡ calls.old) }
+    ensures faults_same { OnFalse result (faults.new ≡ faults.old) }
+{
     if !is_due(listed, call) {
         return false;
     }
@@ -43,7 +72,10 @@ fn is_struck(listed: &mut Vec<Listed>, calls: &mut u64, faults: &mut u64, call: 
 }
 
 /// The names of all files.
-fn names_of(alloc: Global, files: &Store) -> Result<Names, AllocError> {
+fn names_of(alloc: Global, files: &Store) -> Result<Names, AllocError>
+    ensures names { IfOk result (λ names. names ≡ map string_bytes (tree.keys files.now)) }
+    ensures order { OnOk result (tree.IsOrdered string_cmp files.now) }
+{
     let mut names = Names::new(alloc);
     for name in files.keys() {
         names.push(name.as_str())?;
@@ -52,8 +84,12 @@ fn names_of(alloc: Global, files: &Store) -> Result<Names, AllocError> {
 }
 
 impl MemFiles {
+    ghost use Rattle.zn_files.specs.Memory.{mem_state};
+
     /// An empty directory, none of whose calls is to fail. It takes no memory.
-    pub fn new(alloc: Global) -> MemFiles {
+    pub fn new(alloc: Global) -> MemFiles
+        ensures { mem_state result ≡ record { given = []; made = []; listed = []; calls = 0; faults = 0 } }
+    {
         MemFiles {
             alloc,
             given: Vec::new(alloc),
@@ -66,25 +102,43 @@ impl MemFiles {
     }
 
     /// Lets a call fail: the `nth` of this kind from now on, counted from 1.
-    pub fn fail(&mut self, call: FileCall, nth: u64) -> Result<(), AllocError> {
+    pub fn fail(&mut self, call: FileCall, nth: u64) -> Result<(), AllocError>
+        requires { 1 ≤ nth }
+        ensures ok { OnOk result (mem_state self.new ≡ record (mem_state self.old) {
+            listed = (mem_state self.old).listed ++ (record { call = call; left = nth }) ∷ [];
+        }) }
+        ensures err { OnErr result (mem_state self.new ≡ mem_state self.old) }
+    {
         self.listed.push(Listed { call, left: nth })?;
         Ok(())
     }
 
     /// How many calls there were, but for those that lacked memory.
-    pub fn calls(&self) -> u64 {
+    pub fn calls(&self) -> u64
+        ensures { result ≡ (mem_state self.now).calls }
+    {
         self.calls
     }
 
     /// What a stop after so many calls may have left, by this choice: a directory that is synced whole, none of whose
     /// calls is to fail.
-    pub fn image(&self, calls: u64, choice: Choice) -> Result<MemFiles, AllocError> {
+    pub fn image(&self, calls: u64, choice: Choice) -> Result<MemFiles, AllocError>
+        requires { calls ≤ (mem_state self.now).calls }
+        ensures fresh { IfOk result (λ image. mem_state image
+            ≡ record { given = (mem_state image).given; made = []; listed = []; calls = 0; faults = 0 }) }
+        ensures first { IfOk result (λ image.
+            first (mem_state image) ≡ rested (image_by choice (directory_after (mem_state self.now) calls))) }
+        ensures stop { IfOk result (λ image.
+            IsImageOf (directory_after (mem_state self.now) calls) (contents (first (mem_state image)))) }
+    {
         let mut files = BTreeMap::new(self.alloc);
         trace_until(self.alloc, &mut files, &self.given, calls)?;
         trace_until(self.alloc, &mut files, &self.made, calls)?;
         image_of(self.alloc, &files, choice)
     }
+}
 
+impl MemFiles {
     /// Adds a file that was there at first.
     pub(crate) fn give(&mut self, name: &str, bytes: Vec<u8>) -> Result<(), AllocError> {
         let create = Change::Create(String::from_str(self.alloc, name)?);
@@ -100,13 +154,17 @@ impl MemFiles {
 }
 
 impl Files for MemFiles {
-    ghost use Rattle.zn_files.specs.Memory.{state_of};
+    ghost use Rattle.zn_files.specs.Memory.{mem_state, state_of};
 
     ghost state = { state_of };
 
-    ghost is_sound = { ? };
+    ghost is_sound = { λ m d is. sound_now (map (λ r. call_of r.change) m.given.items) (map recorded_of m.made.items) m.files d m.sound is };
 
-    fn names(&mut self) -> Result<Names, FileError> {
+    fn names(&mut self) -> Result<Names, FileError>
+        ensures done { Called TellNames result (state_of self.old) (state_of self.new) }
+        ensures names { (d : Directory) → directory (state_of self.old) ≡ Some d → IfOk result (λ names. names ≡ keys d) }
+        ensures exact { MemCalled TellNames result (mem_state self.old) (mem_state self.new) }
+    {
         if is_struck(&mut self.listed, &mut self.calls, &mut self.faults, FileCall::Names) {
             return Err(FileError::Fault);
         }
@@ -115,7 +173,11 @@ impl Files for MemFiles {
         Ok(names)
     }
 
-    fn len(&mut self, name: &str) -> Result<u64, FileError> {
+    fn len(&mut self, name: &str) -> Result<u64, FileError>
+        ensures done { Called (TellLen name.now) result (state_of self.old) (state_of self.new) }
+        ensures len { WhereTold (state_of self.old) name.now (λ bytes. IfOk result (λ len. len ≡ length bytes)) }
+        ensures exact { MemCalled (TellLen name.now) result (mem_state self.old) (mem_state self.new) }
+    {
         if is_struck(&mut self.listed, &mut self.calls, &mut self.faults, FileCall::Len) {
             return Err(FileError::Fault);
         }
@@ -126,7 +188,14 @@ impl Files for MemFiles {
         }
     }
 
-    fn read_at(&mut self, name: &str, at: u64, out: &mut [u8]) -> Result<(), FileError> {
+    fn read_at(&mut self, name: &str, at: u64, out: &mut [u8]) -> Result<(), FileError>
+        requires within { WhereTold (state_of self.old) name.now (λ bytes. at + length out.old ≤ length bytes) }
+        ensures done { Called (ReadFrom name.now at (length out.old)) result (state_of self.old) (state_of self.new) }
+        ensures bytes { WhereTold (state_of self.old) name.now (λ bytes.
+            OnOk result (out.new ≡ take (length out.old) (drop at bytes))) }
+        ensures exact { MemCalled (ReadFrom name.now at (length out.old)) result
+            (mem_state self.old) (mem_state self.new) }
+    {
         if is_struck(&mut self.listed, &mut self.calls, &mut self.faults, FileCall::ReadAt) {
             return Err(FileError::Fault);
         }
@@ -139,7 +208,11 @@ impl Files for MemFiles {
         Ok(())
     }
 
-    fn write_at(&mut self, name: &str, at: u64, bytes: &[u8]) -> Result<(), FileError> {
+    fn write_at(&mut self, name: &str, at: u64, bytes: &[u8]) -> Result<(), FileError>
+        requires within { WhereTold (state_of self.old) name.now (λ bytes. at ≤ length bytes) }
+        ensures done { Called (WriteFrom name.now at bytes.now) result (state_of self.old) (state_of self.new) }
+        ensures exact { MemCalled (WriteFrom name.now at bytes.now) result (mem_state self.old) (mem_state self.new) }
+    {
         if is_struck(&mut self.listed, &mut self.calls, &mut self.faults, FileCall::WriteAt) {
             return Err(FileError::Fault);
         }
@@ -158,7 +231,10 @@ impl Files for MemFiles {
         Ok(())
     }
 
-    fn set_len(&mut self, name: &str, len: u64) -> Result<(), FileError> {
+    fn set_len(&mut self, name: &str, len: u64) -> Result<(), FileError>
+        ensures done { Called (SetLength name.now len) result (state_of self.old) (state_of self.new) }
+        ensures exact { MemCalled (SetLength name.now len) result (mem_state self.old) (mem_state self.new) }
+    {
         if is_struck(&mut self.listed, &mut self.calls, &mut self.faults, FileCall::SetLen) {
             return Err(FileError::Fault);
         }
@@ -177,7 +253,10 @@ impl Files for MemFiles {
         Ok(())
     }
 
-    fn create(&mut self, name: &str) -> Result<(), FileError> {
+    fn create(&mut self, name: &str) -> Result<(), FileError>
+        ensures done { Called (CreateFile name.now) result (state_of self.old) (state_of self.new) }
+        ensures exact { MemCalled (CreateFile name.now) result (mem_state self.old) (mem_state self.new) }
+    {
         if is_struck(&mut self.listed, &mut self.calls, &mut self.faults, FileCall::Create) {
             return Err(FileError::Fault);
         }
@@ -196,7 +275,10 @@ impl Files for MemFiles {
         Ok(())
     }
 
-    fn sync(&mut self, name: &str) -> Result<(), FileError> {
+    fn sync(&mut self, name: &str) -> Result<(), FileError>
+        ensures done { Called (SyncFile name.now) result (state_of self.old) (state_of self.new) }
+        ensures exact { MemCalled (SyncFile name.now) result (mem_state self.old) (mem_state self.new) }
+    {
         if is_struck(&mut self.listed, &mut self.calls, &mut self.faults, FileCall::Sync) {
             return Err(FileError::Fault);
         }
