@@ -6,3 +6,4 @@ pub mod ReplayLaws
 pub mod Rising
 pub mod MemCalls
 pub mod MemFirst
+pub mod MemSteps
