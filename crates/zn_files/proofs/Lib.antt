@@ -7,3 +7,4 @@ pub mod Rising
 pub mod MemCalls
 pub mod MemFirst
 pub mod MemSteps
+pub mod NameKeys

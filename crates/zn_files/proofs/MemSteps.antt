@@ -1,17 +1,18 @@
 -- What a call makes of a directory in memory, and what it owes there.
-use Rattle.std.proofs.Common.{◌≡◌, inl, inr, ℕ, ◌≤◌, Bool, true, false, cond, List, [], ◌∷◌, ◌++◌, map, Option, Some, None, Ok, Err, refl, sym, ap, ◌∙◌, subst}
+use Rattle.std.proofs.Common.{◌≡◌, inl, inr, ℕ, ◌≤◌, Bool, true, false, cond, List, [], ◌∷◌, ◌++◌, length, map, Option, Some, None, Ok, Err, refl, sym, ap, ◌∙◌, subst}
 use Rattle.std.specs.Prelude.{is_some}
 use Rattle.std.specs.BTreeMap.{get_by_text}
 use Rattle.std.specs.FinMap.{empty}
 use Rattle.std.specs.Global.{Vec}
 use Rattle.std.specs.Option.{option_map}
 use Rattle.std.proofs.lemmas.List.{map-append}
+use Rattle.std.proofs.lemmas.Option.{same_Some}
 use Rattle.zn_base.specs.Causes.{one_more}
 use Rattle.zn_stand.specs.File.{File, created}
 use Rattle.zn_stand.specs.Maps.{Name}
 use Rattle.zn_stand.specs.Directory.{Directory, file_at, with_file}
-use Rattle.zn_stand.specs.Calls.{Call, CreateFile, made, changed, IsCallFor}
-use Rattle.zn_stand.specs.History.{History}
+use Rattle.zn_stand.specs.Calls.{Call, CreateFile, made, changed, IsWithin, IsCallFor}
+use Rattle.zn_stand.specs.History.{History, newest}
 use Rattle.zn_stand.proofs.NameMaps.{same_name, at_same, at_other}
 use Rattle.zn_stand.proofs.Directories.{changed_same, changed_other}
 use Rattle.zn_files.specs.declared.error.FileError.{FileError}
@@ -20,7 +21,7 @@ use Rattle.zn_files.specs.Replays.{replayed, histories, AreCallsFor}
 use Rattle.zn_files.specs.Refusals.{refusal, unless_there, if_there}
 use Rattle.zn_files.specs.declared.record.Recorded.{Recorded}
 use Rattle.zn_files.specs.Record.{call_of, recorded_of}
-use Rattle.zn_files.specs.States.{Called}
+use Rattle.zn_files.specs.States.{WhereTold, Called}
 use Rattle.zn_files.specs.Stores.{Store, bytes_in, ChangesStored, AddsStored, HoldsFiles}
 use Rattle.zn_files.specs.Sound.{IsSoundMemory, newest-histories, sound_memory}
 use Rattle.zn_files.proofs.ReplayLaws.{replayed-append, calls_both}
@@ -72,6 +73,17 @@ module _ (given : List Call) (since : List (ℕ × Call)) (store : Store) (sound
 
   abbrev pub past : History
   past = histories [] (replayed empty given) (made_since since)
+
+  -- what is told is told of it
+  pub told_here : (n : ℕ) (name : Name) (P : List ℕ → Type 0) → WhereTold (record { history = past; faults = n }) name P → (f : File) → file_at here name ≡ Some f → P f.bytes
+  told_here n name P told f is = told here f (newest-histories [] (replayed empty given) (made_since since)) is
+
+  pub here_is : (d : Directory) → newest past ≡ Some d → here ≡ d
+  here_is d is = same_Some here d (sym (newest-histories [] (replayed empty given) (made_since since)) ∙ is)
+
+  pub bytes_here : (name : Name) (v : Vec ℕ) (d : Directory) (f : File) → get_by_text store name ≡ Some v → newest past ≡ Some d → file_at d name ≡ Some f → v.items ≡ f.bytes
+  bytes_here name v d f there told is =
+      same_Some v.items f.bytes (sym (ap (option_map (λ x. x.items)) there) ∙ sound.files name ∙ ap (option_map (λ f. f.bytes)) (ap (λ e. file_at e name) (here_is d told) ∙ is))
 
   pub recorded_sound : (new : Store) (n : ℕ) (call : Call) → IsCallFor here call → HoldsFiles new (made call here) → IsSoundMemory given (since ++ (n, call) ∷ []) new
   recorded_sound new n call fits holds = record {
@@ -132,3 +144,17 @@ same_holds store d name g same holds = changed_holds store store d name (λ byte
     as_is : (o : Option (List ℕ)) → o ≡ option_map (λ bytes. bytes) o
     as_is None = refl
     as_is (Some bytes) = refl
+
+-- a place that lies within a file lies within what is held of it
+pub within_stored : (store : Store) (d : Directory) (name : Name) (at : ℕ) → HoldsFiles store d → IsWithin d name at → (old : List ℕ) → bytes_in store name ≡ Some old → at ≤ length old
+within_stored store d name at holds within old is = by_case (file_at d name) refl (sym (holds name) ∙ is)
+  where
+    by_case : (o : Option File) → file_at d name ≡ o → option_map (λ f. f.bytes) o ≡ Some old → at ≤ length old
+    by_case None there none = absurd (cc)
+    by_case (Some f) there same = subst (λ (bytes : List ℕ). at ≤ length bytes) (same_Some f.bytes old same) (within f there)
+
+pub there_now : (store : Store) (d : Directory) (name : Name) → HoldsFiles store d → (v : Vec ℕ) → get_by_text store name ≡ Some v → unless_there d name ≡ None
+there_now store d name holds v is = is_there store d name holds true (sym (ap is_some is)) refl
+
+pub missing_there : (store : Store) (d : Directory) (name : Name) → HoldsFiles store d → get_by_text store name ≡ None → unless_there d name ≡ Some Missing
+missing_there store d name holds is = is_missing store d name holds false (sym (ap is_some is)) refl
