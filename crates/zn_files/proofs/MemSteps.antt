@@ -85,6 +85,14 @@ module _ (given : List Call) (since : List (ℕ × Call)) (store : Store) (sound
   bytes_here name v d f there told is =
       same_Some v.items f.bytes (sym (ap (option_map (λ x. x.items)) there) ∙ sound.files name ∙ ap (option_map (λ f. f.bytes)) (ap (λ e. file_at e name) (here_is d told) ∙ is))
 
+  -- and of what is held of it
+  pub held_within : (n : ℕ) (name : Name) (P : List ℕ → Type 0) → WhereTold (record { history = past; faults = n }) name P → (v : Vec ℕ) → get_by_text store name ≡ Some v → P v.items
+  held_within n name P told v there = by_case (file_at here name) refl (sym (ap (option_map (λ x. x.items)) there) ∙ sound.files name)
+    where
+      by_case : (o : Option File) → file_at here name ≡ o → Some v.items ≡ option_map (λ f. f.bytes) o → P v.items
+      by_case None is same = absurd (cc)
+      by_case (Some f) is same = subst P (sym (same_Some v.items f.bytes same)) (told_here n name P told f is)
+
   pub recorded_sound : (new : Store) (n : ℕ) (call : Call) → IsCallFor here call → HoldsFiles new (made call here) → IsSoundMemory given (since ++ (n, call) ∷ []) new
   recorded_sound new n call fits holds = record {
     first = sound.first;

@@ -70,7 +70,7 @@ stored_names : (es : List (String Global × Vec ℕ)) → map (λ e. e.0) (map s
 stored_names [] = refl
 stored_names (e ∷ es) = ap (λ l. string_bytes e.0 ∷ l) (stored_names es)
 
-file_names : (es : List (Name × File)) → map (λ e. e.0) (map (λ (e : Name × File). (e.0, e.1.bytes)) es) ≡ map (λ e. e.0) es
+file_names : (es : List (Name × File)) → map (λ (e : Name × List ℕ). e.0) (map (λ (e : Name × File). (e.0, e.1.bytes)) es) ≡ map (λ e. e.0) es
 file_names [] = refl
 file_names (e ∷ es) = ap (λ l. e.0 ∷ l) (file_names es)
 

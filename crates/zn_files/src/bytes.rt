@@ -1,5 +1,5 @@
 // The bytes of a file in memory.
-ghost use Rattle.std.specs.Prelude.{◌≡◌, ◌≤◌, vec_len, OnOk, OnErr};
+ghost use Rattle.std.specs.Prelude.{◌≡◌, ◌+◌, ◌≤◌, length, take, drop, vec_len, OnOk, OnErr};
 ghost use Rattle.zn_truth.specs.Orders.{replaced};
 
 use std::alloc::AllocError;
@@ -14,4 +14,12 @@ pub fn put_bytes(file: &mut Vec<u8>, at: usize, bytes: &[u8]) -> Result<(), Allo
     file.extend_from_slice(&bytes[over..])?;
     file[at..at + over].copy_from_slice(&bytes[..over]);
     Ok(())
+}
+
+/// Reads bytes from `at` on, as many as fill `out`.
+pub fn read_bytes(file: &[u8], at: usize, out: &mut [u8])
+    requires { at + length out.old ≤ length file.now }
+    ensures { out.new ≡ take (length out.old) (drop at file.now) }
+{
+    out.copy_from_slice(&file[at..at + out.len()]);
 }

@@ -14,6 +14,7 @@ ghost use Rattle.zn_files.specs.Images.{image_by};
 ghost use Rattle.zn_files.specs.States.{directory, WhereTold, Called};
 ghost use Rattle.zn_files.specs.MemStates.{MemCalled, first, directory_after, files_state};
 
+use crate::bytes::read_bytes;
 use crate::images::{Choice, image_of};
 use crate::listed::{Listed, is_due, pass};
 use crate::record::{Change, Recorded};
@@ -200,12 +201,13 @@ impl Files for MemFiles {
             return Err(FileError::Fault);
         }
         count(&mut self.listed, &mut self.calls, FileCall::ReadAt);
-        let Some(bytes) = self.files.get(name) else {
-            return Err(FileError::Missing);
-        };
-        let at = at as usize;
-        out.copy_from_slice(&bytes[at..at + out.len()]);
-        Ok(())
+        match self.files.get(name) {
+            Some(bytes) => {
+                read_bytes(bytes, at as usize, out);
+                Ok(())
+            }
+            None => Err(FileError::Missing),
+        }
     }
 
     fn write_at(&mut self, name: &str, at: u64, bytes: &[u8]) -> Result<(), FileError>
