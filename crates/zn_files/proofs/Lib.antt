@@ -8,3 +8,5 @@ pub mod MemCalls
 pub mod MemFirst
 pub mod MemSteps
 pub mod NameKeys
+pub mod Giving
+pub mod Imaging

@@ -37,24 +37,24 @@ calls_both d (call ∷ a) b front behind = (front.0, calls_both (made call d) a 
 
 -- ---- what is recorded
 
-abbrev pub calls_in : List Recorded → List Call
-calls_in recorded = map (λ r. call_of r.change) recorded
+abbrev pub call_in : Recorded → Call
+call_in r = call_of r.change
 
-drop_one : (xs : List Recorded) (i : ℕ) (r : Recorded) → i < length xs → r ≡ get_or xs i r → drop i xs ≡ r ∷ drop (i + 1) xs
+drop_one : {X : Type 0} (xs : List X) (i : ℕ) (r : X) → i < length xs → r ≡ get_or xs i r → drop i xs ≡ r ∷ drop (i + 1) xs
 drop_one xs i r h is = drop-cons xs i r h ∙ ap (λ x. x ∷ drop (suc i) xs) (sym is) ∙ ap (λ n. r ∷ drop n xs) (sym (add-one i))
 
-parts : (xs : List Recorded) (i : ℕ) (r : Recorded) → i < length xs → r ≡ get_or xs i r → xs ≡ take i xs ++ r ∷ drop (i + 1) xs
+parts : {X : Type 0} (xs : List X) (i : ℕ) (r : X) → i < length xs → r ≡ get_or xs i r → xs ≡ take i xs ++ r ∷ drop (i + 1) xs
 parts xs i r h is = sym (take-append-drop i xs) ∙ ap (λ l. take i xs ++ l) (drop_one xs i r h is)
 
-pub replayed-more : (d : Directory) (xs : List Recorded) (i : ℕ) (r : Recorded) → i < length xs → r ≡ get_or xs i r → replayed d (calls_in (take (i + 1) xs)) ≡ made (call_of r.change) (replayed d (calls_in (take i xs)))
-replayed-more d xs i r h is =
-    ap (λ l. replayed d (calls_in l)) (take_more xs i r h ∙ ap (λ x. take i xs ++ x ∷ []) (sym is))
-    ∙ ap (replayed d) (map-append (λ r. call_of r.change) (take i xs) (r ∷ []))
-    ∙ replayed-append d (calls_in (take i xs)) (call_of r.change ∷ [])
+pub replayed-more : {X : Type 0} (g : X → Call) (d : Directory) (xs : List X) (i : ℕ) (r : X) → i < length xs → r ≡ get_or xs i r → replayed d (map g (take (i + 1) xs)) ≡ made (g r) (replayed d (map g (take i xs)))
+replayed-more g d xs i r h is =
+    ap (λ l. replayed d (map g l)) (take_more xs i r h ∙ ap (λ x. take i xs ++ x ∷ []) (sym is))
+    ∙ ap (replayed d) (map-append g (take i xs) (r ∷ []))
+    ∙ replayed-append d (map g (take i xs)) (g r ∷ [])
 
-pub call_fits : (d : Directory) (xs : List Recorded) (i : ℕ) (r : Recorded) → i < length xs → r ≡ get_or xs i r → AreCallsFor d (calls_in xs) → IsCallFor (replayed d (calls_in (take i xs))) (call_of r.change)
-call_fits d xs i r h is fits =
-    (calls_behind d (calls_in (take i xs)) (calls_in (r ∷ drop (i + 1) xs)) (subst (AreCallsFor d) (ap calls_in (parts xs i r h is) ∙ map-append (λ r. call_of r.change) (take i xs) (r ∷ drop (i + 1) xs)) fits)).0
+pub call_fits : {X : Type 0} (g : X → Call) (d : Directory) (xs : List X) (i : ℕ) (r : X) → i < length xs → r ≡ get_or xs i r → AreCallsFor d (map g xs) → IsCallFor (replayed d (map g (take i xs))) (g r)
+call_fits g d xs i r h is fits =
+    (calls_behind d (map g (take i xs)) (map g (r ∷ drop (i + 1) xs)) (subst (AreCallsFor d) (ap (map g) (parts xs i r h is) ∙ map-append g (take i xs) (r ∷ drop (i + 1) xs)) fits)).0
 
 taken_one : (p : Recorded → Bool) (x : Recorded) (xs : List Recorded) → p x ≡ true → take_while p (x ∷ xs) ≡ x ∷ take_while p xs
 taken_one p x xs passes = ap (λ b. take (cond b (1 + prefix_len p xs) 0) (x ∷ xs)) passes ∙ ap (λ n. take n (x ∷ xs)) more

@@ -13,12 +13,16 @@ use Rattle.zn_files.specs.declared.record.Change.TheVariants.{Create, Write, Set
 use Rattle.zn_files.specs.Replays.{AreCallsFor}
 use Rattle.zn_files.specs.declared.traced.Traced.{Traced}
 
--- it has the file's bytes and those at its last sync, and tells which places were written and added since
-pub record Traces (t : Traced) (f : File) : Type 0 where
-  pub bytes : t.bytes.items ≡ f.bytes
+-- it has the bytes at the file's last sync, and tells which places were written and added since
+pub record TracesSync (t : Traced) (f : File) : Type 0 where
   pub at_sync : option_map (λ v. v.items) t.at_sync ≡ f.at_sync
   pub is_written : (i : ℕ) → slice_index_or t.is_written.items i false ≡ f.is_written i
   pub is_added : (i : ℕ) → slice_index_or t.is_added.items i false ≡ f.is_added i
+
+-- and it has the bytes that the file has now
+pub record Traces (t : Traced) (f : File) : Type 0 where
+  pub bytes : t.bytes.items ≡ f.bytes
+  pub sync : TracesSync t f
 
 -- the traces of files, by name
 abbrev pub TraceMap : Type 0

@@ -1,5 +1,5 @@
 // A directory in memory, whose calls fail by a list, and which keeps each call that changes it.
-ghost use Rattle.std.specs.Prelude.{◌≡◌, ◌+◌, ◌≤◌, ◌++◌, ◌∷◌, [], map, length, take, drop, Some, None, IfOk, OnOk, OnErr};
+ghost use Rattle.std.specs.Prelude.{◌≡◌, ◌+◌, ◌<◌, ◌≤◌, vec_len, vec_capacity, ◌++◌, ◌∷◌, [], map, length, take, drop, Some, None, IfOk, OnOk, OnErr};
 ghost use Rattle.std.specs.Bool.{OnTrue, OnFalse};
 ghost use Rattle.std.specs.BTreeMap as tree;
 ghost use Rattle.std.specs.FinMap.{keys};
@@ -17,8 +17,8 @@ ghost use Rattle.zn_files.specs.MemStates.{MemCalled, first, directory_after, fi
 use crate::bytes::read_bytes;
 use crate::images::{Choice, image_of};
 use crate::listed::{Listed, is_due, pass};
-use crate::record::{Change, Recorded};
-use crate::replay::trace_until;
+use crate::record::{Change, Recorded, create_call, set_len_call, sync_call, write_call};
+use crate::replay::{trace_all, trace_until};
 use crate::store::{Store, insert_stored, resize_stored, write_stored};
 use crate::{FileCall, FileError, Files, Names};
 use std::alloc::{AllocError, Global};
@@ -30,7 +30,7 @@ use std::collections::BTreeMap;
 pub struct MemFiles {
     alloc: Global,
     /// The calls that made it what it was at first.
-    given: Vec<Recorded>,
+    given: Vec<Change>,
     /// Those that changed it since.
     made: Vec<Recorded>,
     /// What a read gives.
@@ -40,8 +40,8 @@ pub struct MemFiles {
     /// How many calls there were, but for those that lacked memory.
     calls: u64,
     faults: u64,
-    ghost sound: { IsSoundMemory (map (λ r. call_of r.change) given.items) (map recorded_of made.items) files }
-        by { sound_prop (map (λ r. call_of r.change) given.items) (map recorded_of made.items) files },
+    ghost sound: { IsSoundMemory (map call_of given.items) (map recorded_of made.items) files }
+        by { sound_prop (map call_of given.items) (map recorded_of made.items) files },
 }
 
 /// Counts a call of this kind.
@@ -133,23 +133,34 @@ impl MemFiles {
             IsImageOf (directory_after (mem_state self.now) calls) (contents (first (mem_state image)))) }
     {
         let mut files = BTreeMap::new(self.alloc);
-        trace_until(self.alloc, &mut files, &self.given, calls)?;
+        trace_all(self.alloc, &mut files, &self.given)?;
         trace_until(self.alloc, &mut files, &self.made, calls)?;
-        image_of(self.alloc, &files, choice)
+        image_of(self.alloc, files, choice)
     }
 }
 
 impl MemFiles {
+    ghost use Rattle.std.specs.FinMap.{insert};
+    ghost use Rattle.zn_stand.specs.File.{AreBytes, at_rest};
+    ghost use Rattle.zn_stand.specs.Directory.{file_at};
+    ghost use Rattle.zn_files.specs.Memory.{mem_state};
+
     /// Adds a file that was there at first.
-    pub(crate) fn give(&mut self, name: &str, bytes: Vec<u8>) -> Result<(), AllocError> {
-        let create = Change::Create(String::from_str(self.alloc, name)?);
-        let write = Change::Write(String::from_str(self.alloc, name)?, 0, bytes.to_vec(self.alloc)?);
-        let sync = Change::Sync(String::from_str(self.alloc, name)?);
+    pub(crate) fn give(&mut self, name: &str, bytes: Vec<u8>) -> Result<(), AllocError>
+        requires absent { file_at (first (mem_state self.old)) name.now ≡ None }
+        requires fresh { (mem_state self.old).made ≡ [] }
+        ensures given { OnOk result (first (mem_state self.new)
+            ≡ insert (first (mem_state self.old)) name.now (at_rest bytes.items)) }
+        ensures same { mem_state self.new ≡ record (mem_state self.old) { given = (mem_state self.new).given } }
+    {
+        let create = create_call(self.alloc, name)?;
+        let write = write_call(self.alloc, name, 0, &bytes)?;
+        let sync = sync_call(self.alloc, name)?;
         self.given.reserve(3)?;
         insert_stored(self.alloc, &mut self.files, name, bytes)?;
-        for change in [create, write, sync] {
-            self.given.push_reserved(Recorded { number: 0, change });
-        }
+        self.given.push_reserved(create);
+        self.given.push_reserved(write);
+        self.given.push_reserved(sync);
         Ok(())
     }
 }
@@ -159,7 +170,7 @@ impl Files for MemFiles {
 
     ghost state = { state_of };
 
-    ghost is_sound = { λ m d is. sound_now (map (λ r. call_of r.change) m.given.items) (map recorded_of m.made.items) m.files d m.sound is };
+    ghost is_sound = { λ m d is. sound_now (map call_of m.given.items) (map recorded_of m.made.items) m.files d m.sound is };
 
     fn names(&mut self) -> Result<Names, FileError>
         ensures done { Called TellNames result (state_of self.old) (state_of self.new) }
@@ -222,7 +233,7 @@ impl Files for MemFiles {
             count(&mut self.listed, &mut self.calls, FileCall::WriteAt);
             return Err(FileError::Missing);
         }
-        let change = Change::Write(String::from_str(self.alloc, name)?, at, bytes.to_vec(self.alloc)?);
+        let change = write_call(self.alloc, name, at, bytes)?;
         self.made.reserve(1)?;
         write_stored(&mut self.files, name, at, bytes)?;
         count(&mut self.listed, &mut self.calls, FileCall::WriteAt);
@@ -244,7 +255,7 @@ impl Files for MemFiles {
             count(&mut self.listed, &mut self.calls, FileCall::SetLen);
             return Err(FileError::Missing);
         }
-        let change = Change::SetLen(String::from_str(self.alloc, name)?, len);
+        let change = set_len_call(self.alloc, name, len)?;
         self.made.reserve(1)?;
         resize_stored(&mut self.files, name, len)?;
         count(&mut self.listed, &mut self.calls, FileCall::SetLen);
@@ -266,7 +277,7 @@ impl Files for MemFiles {
             count(&mut self.listed, &mut self.calls, FileCall::Create);
             return Err(FileError::Exists);
         }
-        let change = Change::Create(String::from_str(self.alloc, name)?);
+        let change = create_call(self.alloc, name)?;
         self.made.reserve(1)?;
         insert_stored(self.alloc, &mut self.files, name, Vec::new(self.alloc))?;
         count(&mut self.listed, &mut self.calls, FileCall::Create);
@@ -288,7 +299,7 @@ impl Files for MemFiles {
             count(&mut self.listed, &mut self.calls, FileCall::Sync);
             return Err(FileError::Missing);
         }
-        let change = Change::Sync(String::from_str(self.alloc, name)?);
+        let change = sync_call(self.alloc, name)?;
         self.made.reserve(1)?;
         count(&mut self.listed, &mut self.calls, FileCall::Sync);
         self.made.push_reserved(Recorded {

@@ -75,6 +75,18 @@ fn trace(alloc: Global, files: &mut Traces, change: &Change) -> Result<(), Alloc
     }
 }
 
+/// Does calls that were made.
+pub fn trace_all(alloc: Global, files: &mut Traces, changes: &[Change]) -> Result<(), AllocError>
+    requires { MayTraceAll files.old (map call_of changes.now) }
+    ensures { OnOk result ((d : Directory) → TracesAll files.old d
+        → TracesAll files.new (replayed d (map call_of changes.now))) }
+{
+    for change in changes {
+        trace(alloc, files, change)?;
+    }
+    Ok(())
+}
+
 /// Does the calls that were made, up to the first that isn't among so many.
 pub fn trace_until(
     alloc: Global,

@@ -1,5 +1,5 @@
 // A file with what a stop may leave of it.
-ghost use Rattle.std.specs.Prelude.{◌≡◌, ◌≤◌, ℕ, false, ◌||◌, slice_index_or, vec_len, is_some, not, IfOk, OnOk};
+ghost use Rattle.std.specs.Prelude.{◌≡◌, ◌≤◌, ℕ, false, ◌||◌, slice_index_or, vec_len, is_some, not, OnOk};
 ghost use Rattle.std.specs.Option.{option_map};
 ghost use Rattle.zn_stand.specs.File.{File, created, written, resized, synced, is_between, value_left};
 ghost use Rattle.zn_files.specs.Images.{filled, left_by};
@@ -41,7 +41,7 @@ fn is_marked(flags: &Vec<bool>, i: usize) -> bool
 }
 
 impl Traced {
-    ghost use Rattle.zn_files.specs.Traces.{Traces};
+    ghost use Rattle.zn_files.specs.Traces.{Traces, TracesSync};
 
     /// A file as it is created.
     pub fn new(alloc: Global) -> Traced
@@ -85,7 +85,7 @@ impl Traced {
 
     /// Whether a stop may leave any byte at this place.
     fn is_free(&self, i: usize) -> bool
-        ensures { (f : File) → Traces self.now f → result ≡ not (is_some (value_left f i)) }
+        ensures { (f : File) → TracesSync self.now f → result ≡ not (is_some (value_left f i)) }
     {
         let synced = match &self.at_sync {
             Some(bytes) => bytes.len(),
@@ -94,31 +94,27 @@ impl Traced {
         is_marked(&self.is_written, i) || (i < synced) == is_marked(&self.is_added, i)
     }
 
-    /// The bytes with this value in place of each that a stop may leave as anything.
-    fn filled(&self, alloc: Global, value: u8) -> Result<Vec<u8>, AllocError>
-        ensures { IfOk result (λ bytes. (f : File) → Traces self.now f → bytes.items ≡ filled value f) }
+    /// The bytes, with this value in place of each that a stop may leave as anything.
+    fn filled(self, value: u8) -> Vec<u8>
+        ensures { (f : File) → Traces self f → result.items ≡ filled value f }
     {
-        let mut bytes = self.bytes.to_vec(alloc)?;
-        for i in 0..bytes.len() {
-            if self.is_free(i) {
-                bytes[i] = value;
+        let mut file = self;
+        for i in 0..file.bytes.len() {
+            if file.is_free(i) {
+                file.bytes[i] = value;
             }
         }
-        Ok(bytes)
+        file.bytes
     }
 
     /// What is left of the file by this choice, if it is there.
-    pub fn left(&self, alloc: Global, choice: Choice) -> Result<Option<Vec<u8>>, AllocError>
-        ensures { IfOk result (λ left. (f : File) → Traces self.now f
-            → option_map (λ v. v.items) left ≡ left_by choice f) }
+    pub fn left(self, choice: Choice) -> Option<Vec<u8>>
+        ensures { (f : File) → Traces self f → option_map (λ v. v.items) result ≡ left_by choice f }
     {
         match choice {
-            Choice::Least => match &self.at_sync {
-                Some(bytes) => Ok(Some(bytes.to_vec(alloc)?)),
-                None => Ok(None),
-            },
-            Choice::Most => Ok(Some(self.bytes.to_vec(alloc)?)),
-            Choice::Filled(value) => Ok(Some(self.filled(alloc, value)?)),
+            Choice::Least => self.at_sync,
+            Choice::Most => Some(self.bytes),
+            Choice::Filled(value) => Some(self.filled(value)),
         }
     }
 }
