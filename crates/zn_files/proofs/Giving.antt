@@ -1,13 +1,13 @@
 -- A file that is given.
-use Rattle.std.proofs.Common.{◌≡◌, ◌≢◌, inl, inr, ℕ, ◌+◌, ◌≤◌, false, cond, List, [], ◌∷◌, ◌++◌, length, drop, map, Option, Some, None, refl, sym, ap, ◌∙◌, subst, arith, append-nil, append_assoc}
+use Rattle.std.proofs.Common.{◌≡◌, inl, inr, ℕ, ◌+◌, cond, List, [], ◌∷◌, ◌++◌, length, map, Some, None, sym, ap, ◌∙◌, subst, arith, append-nil, append_assoc}
 use Rattle.std.proofs.Math.Seq.{drop-nil}
 use Rattle.std.specs.Prelude.{is_some}
 use Rattle.std.specs.FinMap.{empty, insert}
 use Rattle.std.specs.Option.{option_map}
 use Rattle.zn_truth.specs.Orders.{replaced}
-use Rattle.zn_stand.specs.File.{File, AreBytes, created, at_rest, written, synced}
+use Rattle.zn_stand.specs.File.{AreBytes, created, at_rest, written, synced}
 use Rattle.zn_stand.specs.Maps.{Name}
-use Rattle.zn_stand.specs.Directory.{Directory, file_at, with_file}
+use Rattle.zn_stand.specs.Directory.{Directory, file_at}
 use Rattle.zn_stand.specs.Calls.{Call, WriteFrom, CreateFile, SyncFile, made, changed}
 use Rattle.zn_stand.proofs.NameMaps.{same_name, at_same, at_other, maps_same}
 use Rattle.zn_stand.proofs.Directories.{changed_same, changed_other}
@@ -70,6 +70,6 @@ pub calls_given : (before middle one two three : List Change) (create write sync
     → call_of create ≡ CreateFile name → call_of write ≡ WriteFrom name 0 bytes → call_of sync ≡ SyncFile name → map call_of three ≡ map call_of before ++ giving name bytes
 calls_given before middle one two three create write sync name bytes same first second third is_create is_write is_sync =
     ap (map call_of) (third ∙ ap (λ l. l ++ sync ∷ []) (second ∙ ap (λ l. l ++ write ∷ []) (first ∙ ap (λ l. l ++ create ∷ []) same))
-        ∙ append_assoc (before ++ create ∷ []) (write ∷ []) (sync ∷ []) ∙ append_assoc before (create ∷ []) (write ∷ sync ∷ []))
+    ∙ append_assoc (before ++ create ∷ []) (write ∷ []) (sync ∷ []) ∙ append_assoc before (create ∷ []) (write ∷ sync ∷ []))
     ∙ map-append call_of before (create ∷ write ∷ sync ∷ [])
     ∙ ap (λ (l : List Call). map call_of before ++ l) (λ i. is_create i ∷ is_write i ∷ is_sync i ∷ [])

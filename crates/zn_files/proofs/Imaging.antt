@@ -1,8 +1,7 @@
 -- An image, file by file.
 use Rattle.std.proofs.lemmas.Cmp.{nat_list_cmp_total, tied_itself}
 use Rattle.std.proofs.lemmas.Option.{same_Some}
-use Rattle.std.proofs.Common.{◌≡◌, ◌⊎◌, ◌≢◌, inl, inr, ℕ, true, false, Bool, cond, List, [], ◌∷◌, map, Option, Some, None, String, Global, refl, sym, ap, ◌∙◌, subst}
-use Rattle.std.specs.Prelude.{is_some}
+use Rattle.std.proofs.Common.{◌≡◌, ◌≢◌, inl, inr, ℕ, cond, List, [], ◌∷◌, map, Option, Some, None, String, Global, refl, sym, ap, ◌∙◌, subst}
 use Rattle.std.specs.BTreeMap.{is_at}
 use Rattle.std.specs.Cmp.Lexicographic.{slice_cmp}
 use Rattle.std.specs.FinMap.{empty, insert, get-empty}
@@ -10,7 +9,7 @@ use Rattle.std.specs.List.{AllByRecursion}
 use Rattle.std.specs.List.Sorted.{IsStrictlySortedBy}
 use Rattle.std.specs.Map.{lookup}
 use Rattle.std.specs.Option.{option_map, option_and_then}
-use Rattle.std.specs.Ordering.{is_eq, nat_cmp, eq_by_cmp}
+use Rattle.std.specs.Ordering.{is_eq, nat_cmp}
 use Rattle.std.specs.String.{string_bytes, string_cmp}
 use Rattle.std.specs.declared.cmp.Ordering.TheVariants.{Less}
 use Rattle.zn_stand.specs.File.{File, at_rest}
@@ -130,5 +129,5 @@ only_given given = record { given = given; made = []; listed = []; calls = 0; fa
 pub fresh_state : (s : MemState) (given : List Call) → s ≡ only_given given → s ≡ only_given s.given
 fresh_state s given is = is ∙ ap only_given (sym (ap (λ (x : MemState). x.given) is))
 
-pub fresh_after : (old new : MemState) → old ≡ only_given old.given → new ≡ record old { given = new.given; } → new ≡ only_given new.given
-fresh_after old new fresh same = same ∙ ap (λ (o : MemState). record o { given = new.given; }) fresh
+pub fresh_after : (old new : MemState) → old ≡ only_given old.given → new ≡ record old { given = new.given } → new ≡ only_given new.given
+fresh_after old new fresh same = same ∙ ap (λ (o : MemState). record o { given = new.given }) fresh

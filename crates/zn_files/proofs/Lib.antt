@@ -10,3 +10,5 @@ pub mod MemSteps
 pub mod NameKeys
 pub mod Giving
 pub mod Imaging
+pub mod Leaving
+pub mod Until

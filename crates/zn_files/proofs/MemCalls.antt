@@ -1,21 +1,20 @@
 -- What calls on a directory in memory owe.
-use Rattle.std.proofs.Common.{◌≡◌, ◌⊎◌, inl, inr, ⊎_elim, ℕ, ◌+◌, ◌-◌, ◌^◌, ◌<◌, ◌≤◌, min, Bool, true, false, cond, List, [], ◌∷◌, ◌++◌, Option, Some, None, Result, Ok, Err, refl, sym, ap, ◌∙◌, subst, arith}
-use Rattle.std.specs.Prelude.{is_some, IsTrue, IsErrOf}
+use Rattle.std.proofs.Common.{◌≡◌, ◌⊎◌, inl, inr, ⊎_elim, ℕ, ◌≤◌, true, cond, [], ◌∷◌, Option, Some, None, Ok, Err, refl, sym, ap, ◌∙◌, subst, arith}
+use Rattle.std.specs.Prelude.{is_some, IsErrOf}
 use Rattle.std.specs.Option.{option_map}
 use Rattle.std.proofs.lemmas.Option.{same_Some}
-use Rattle.zn_base.specs.Causes.{one_more, Rose}
+use Rattle.zn_base.specs.Causes.{one_more}
 use Rattle.zn_stand.specs.File.{File, created, written, resized, synced}
 use Rattle.zn_stand.specs.Maps.{Name}
 use Rattle.zn_stand.specs.Directory.{Directory, Contents, file_at, with_file, contents, IsImageOf, IsSoundDirectory}
 use Rattle.zn_stand.specs.Calls.{Call, TellNames, TellLen, ReadFrom, WriteFrom, SetLength, CreateFile, SyncFile, made, during, changed}
-use Rattle.zn_stand.specs.History.{History, newest, IsImageOfOne, LeavesOnly}
+use Rattle.zn_stand.specs.History.{History, newest}
 use Rattle.zn_stand.proofs.Directories.{read_is_image, before_inside, after_inside}
 use Rattle.zn_stand.proofs.Histories.{leaves_nothing}
 use Rattle.zn_files.specs.declared.error.FileError.{FileError}
 use Rattle.zn_files.specs.declared.error.FileError.TheVariants.{Fault, Missing, Exists, Memory}
-use Rattle.zn_files.specs.Causes.{is_answered, FilesCause}
-use Rattle.zn_files.specs.Refusals.{refusal, unless_there, if_there}
-use Rattle.zn_files.specs.States.{FilesState, directory, is_told, MayLeaveInside, Called}
+use Rattle.zn_files.specs.Refusals.{refusal}
+use Rattle.zn_files.specs.States.{MayLeaveInside, Called}
 
 -- ---- refused calls
 
@@ -63,7 +62,6 @@ inside : (call : Call) (h : History) (d : Directory) → newest h ≡ Some d →
 inside call h d now image is = subst (λ o. MayLeaveInside call o image) (sym now) is
 
 module _ (T : Type 0) (call : Call) (h : History) (d : Directory) (now : newest h ≡ Some d) (sound : IsSoundDirectory d) where
-
   -- a call that fails
   pub struck_called : (n m : ℕ) → m ≡ one_more n → n ≤ m → Called {T = T} call (Err Fault) (record { history = h; faults = n }) (record { history = h; faults = m })
   struck_called n m rose no_fewer = record {

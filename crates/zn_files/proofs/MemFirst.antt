@@ -1,5 +1,5 @@
 -- A directory in memory as it begins.
-use Rattle.std.proofs.Common.{◌≡◌, ℕ, List, [], map, Option, Some, None, refl, sym, ap, ◌∙◌, subst}
+use Rattle.std.proofs.Common.{◌≡◌, ℕ, List, [], map, sym, ap, ◌∙◌, subst}
 use Rattle.std.specs.BTreeMap.{IsEmpty, is_at}
 use Rattle.std.specs.Cmp.Lexicographic.{slice_cmp}
 use Rattle.std.specs.Ordering.{nat_cmp}
@@ -8,11 +8,10 @@ use Rattle.std.specs.Map.{lookup}
 use Rattle.std.specs.FinMap.{empty, get-empty}
 use Rattle.std.specs.Option.{option_map}
 use Rattle.zn_stand.specs.File.{File}
-use Rattle.zn_stand.specs.Maps.{Name, name_cmp}
-use Rattle.zn_stand.specs.Directory.{Directory, file_at}
+use Rattle.zn_stand.specs.Maps.{name_cmp}
 use Rattle.zn_stand.specs.Calls.{Call}
 use Rattle.zn_files.specs.Replays.{replayed, AreCallsFor}
-use Rattle.zn_files.specs.Stores.{Store, bytes_in, HoldsFiles}
+use Rattle.zn_files.specs.Stores.{Store, HoldsFiles}
 use Rattle.zn_files.specs.Sound.{IsSoundMemory}
 
 -- an empty store holds the files of an empty directory

@@ -16,7 +16,7 @@ use Rattle.zn_stand.specs.History.{History, newest}
 use Rattle.zn_stand.proofs.NameMaps.{same_name, at_same, at_other}
 use Rattle.zn_stand.proofs.Directories.{changed_same, changed_other}
 use Rattle.zn_files.specs.declared.error.FileError.{FileError}
-use Rattle.zn_files.specs.declared.error.FileError.TheVariants.{Fault, Missing, Exists, Memory}
+use Rattle.zn_files.specs.declared.error.FileError.TheVariants.{Fault, Missing, Exists}
 use Rattle.zn_files.specs.Replays.{replayed, histories, AreCallsFor}
 use Rattle.zn_files.specs.Refusals.{refusal, unless_there, if_there}
 use Rattle.zn_files.specs.declared.record.Recorded.{Recorded}

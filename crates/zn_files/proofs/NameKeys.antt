@@ -1,10 +1,10 @@
 -- The names of a store are those of its directory.
-use Rattle.std.proofs.Common.{◌≡◌, ◌≢◌, ℕ, Bool, true, false, cond, ◌&&◌, List, [], ◌∷◌, map, Option, Some, None, Ordering, String, Global, refl, sym, ap, ◌∙◌, subst}
+use Rattle.std.proofs.Common.{◌≡◌, ℕ, Bool, true, false, cond, ◌&&◌, List, [], ◌∷◌, map, Option, Some, String, Global, refl, sym, ap, ◌∙◌, subst}
 use lib.Dec.{T}
 use Rattle.std.specs.BTreeMap as tree
 use Rattle.std.specs.BTreeMap.{is_at}
 use Rattle.std.specs.Cmp.Lexicographic.{slice_cmp}
-use Rattle.std.specs.FinMap.{get, keys, entries, entries_sorted, get-entries, find, is_sorted, slice_cmp-IsAntisymmetric, nat_cmp-IsAntisymmetric}
+use Rattle.std.specs.FinMap.{keys, entries, entries_sorted, get-entries, find, is_sorted, slice_cmp-IsAntisymmetric, nat_cmp-IsAntisymmetric}
 use Rattle.std.specs.FinMap.Entries.{below_all, same_entries}
 use Rattle.std.specs.Global.{Vec}
 use Rattle.std.specs.List.{AllByRecursion}
@@ -17,8 +17,8 @@ use Rattle.std.specs.declared.cmp.Ordering.TheVariants.{Less}
 use Rattle.std.proofs.lemmas.Cmp.{nat_list_cmp_total}
 use Rattle.zn_stand.specs.File.{File}
 use Rattle.zn_stand.specs.Maps.{Name, name_cmp}
-use Rattle.zn_stand.specs.Directory.{Directory, file_at}
-use Rattle.zn_files.specs.Stores.{Store, bytes_in, HoldsFiles}
+use Rattle.zn_stand.specs.Directory.{Directory}
+use Rattle.zn_files.specs.Stores.{Store, HoldsFiles}
 
 test_of : (b : Bool) → b ≡ true → T b
 test_of true is = tt
@@ -77,5 +77,5 @@ file_names (e ∷ es) = ap (λ l. e.0 ∷ l) (file_names es)
 pub names_held : (store : Store) (d : Directory) → tree.IsOrdered string_cmp store → HoldsFiles store d → map string_bytes (tree.keys store) ≡ keys d
 names_held store d order holds =
     let same = same_entries name_cmp nat_list_cmp_total (slice_cmp-IsAntisymmetric nat_cmp-IsAntisymmetric) (map stored_entry store.entries) (map (λ (e : Name × File). (e.0, e.1.bytes)) (entries d)) (test_of _ (sorted_stored store.entries order)) (subst T (sym (sorted_files (entries d))) (entries_sorted d))
-        (λ q. find_stored q store.entries ∙ holds q ∙ ap (option_map (λ (f : File). f.bytes)) (get-entries d q) ∙ sym (find_files q (entries d))) in
+    (λ q. find_stored q store.entries ∙ holds q ∙ ap (option_map (λ (f : File). f.bytes)) (get-entries d q) ∙ sym (find_files q (entries d))) in
     sym (stored_names store.entries) ∙ ap (map (λ (e : Name × List ℕ). e.0)) same ∙ file_names (entries d)

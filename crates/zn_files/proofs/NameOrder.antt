@@ -1,5 +1,5 @@
 -- Names in order.
-use Rattle.std.proofs.Common.{◌≡◌, ◌⊎◌, inl, inr, ℕ, zero, suc, ◌+◌, ◌-◌, ◌<◌, ◌≤◌, Bool, true, false, List, [], ◌∷◌, ◌++◌, length, take, drop, map, get_or, Ordering, Global, String, refl, sym, ap, ◌∙◌, subst, arith}
+use Rattle.std.proofs.Common.{◌≡◌, ◌⊎◌, inl, inr, ℕ, zero, suc, ◌+◌, ◌-◌, ◌<◌, ◌≤◌, Bool, true, false, List, [], ◌∷◌, length, map, get_or, Ordering, Global, String, refl, sym, ap, ◌∙◌, subst, arith}
 use Rattle.std.specs.Prelude.{Contains, ◌≢◌}
 use Rattle.std.specs.List.{insert}
 use Rattle.std.specs.List.Sorted.{IsPartitionedBy, IsPartitionPoint}
@@ -59,12 +59,15 @@ insert_order names name p le order below behind i j lt within = elim (place_of i
   where
     place_of : (k : ℕ) → (k < p) ⊎ ((k ≡ p) ⊎ (p < k))
     place_of k = grind (arith, nat_tests)
+
     here : (k : ℕ) → k ≡ p → get_or (insert names p name) k [] ≡ name
     here k is = ap (λ n. get_or (insert names p name) n []) is ∙ get_or-insert_at names p name [] le
+
     beyond : (k : ℕ) → p < k → get_or (insert names p name) k [] ≡ get_or names (k - 1) []
     beyond k lt =
         let same : k ≡ (k - 1) + 1 = omega arith in
         ap (λ n. get_or (insert names p name) n []) same ∙ get_or-insert_above names p name [] (k - 1) (omega arith) le
+
     at : (i j : ℕ) (a b : Name) → get_or (insert names p name) i [] ≡ a → get_or (insert names p name) j [] ≡ b → name_cmp a b ≡ Less → name_cmp (get_or (insert names p name) i []) (get_or (insert names p name) j []) ≡ Less
     at i j a b first second is = ap (λ x. name_cmp x (get_or (insert names p name) j [])) first ∙ ap (name_cmp a) second ∙ is
 
@@ -82,7 +85,7 @@ order_parted xs name order i j d le within lt = elim (same_or_less i j le) [
   | inl same ↦ ap (λ n. is_below name (get_or xs n d)) same ∙ lt
   | inr before ↦
       let up : name_cmp (string_bytes (get_or xs i d)) (string_bytes (get_or xs j d)) ≡ Less =
-          ap (λ n. name_cmp n (string_bytes (get_or xs j d))) (sym (name_at xs i d (omega arith))) ∙ ap (name_cmp (get_or (map string_bytes xs) i [])) (sym (name_at xs j d within)) ∙ order i j before (omega (arith, length-map xs string_bytes)) in
+      ap (λ n. name_cmp n (string_bytes (get_or xs j d))) (sym (name_at xs i d (omega arith))) ∙ ap (name_cmp (get_or (map string_bytes xs) i [])) (sym (name_at xs j d within)) ∙ order i j before (omega (arith, length-map xs string_bytes)) in
       ap is_lt (nat_list_cmp_total.trans (string_bytes (get_or xs i d)) (string_bytes (get_or xs j d)) name up (less (string_bytes (get_or xs j d)) name lt))
 ]
   where

@@ -1,21 +1,21 @@
 -- Calls one after another.
-use Rattle.std.proofs.Common.{◌≡◌, ℕ, zero, suc, ◌+◌, ◌<◌, ◌≤◌, Bool, true, false, cond, List, [], ◌∷◌, ◌++◌, length, take, drop, map, get_or, Option, Some, None, refl, sym, ap, ◌∙◌, subst, arith, append_assoc, take-append-drop, drop-cons, add-one}
+use Rattle.std.proofs.Common.{◌≡◌, ℕ, suc, ◌+◌, ◌<◌, ◌≤◌, Bool, true, cond, List, [], ◌∷◌, ◌++◌, length, take, drop, map, get_or, Option, Some, None, refl, sym, ap, ◌∙◌, subst, arith, append_assoc, take-append-drop, drop-cons, add-one}
 use Rattle.std.specs.Prelude.{nat_le, vec_len}
 use Rattle.std.specs.List.{take_while, prefix_len}
 use Rattle.std.specs.BTreeMap.{get_by_text}
 use Rattle.std.specs.String.{string_bytes}
 use Rattle.std.proofs.lemmas.Bool.Decides.{nat_tests}
-use Rattle.std.proofs.lemmas.List.{take_more, map-append, get_or-map}
+use Rattle.std.proofs.lemmas.List.{take_more, map-append}
 use Rattle.zn_stand.specs.File.{File}
 use Rattle.zn_stand.specs.Directory.{Directory, file_at}
-use Rattle.zn_stand.specs.Calls.{Call, made, IsCallFor, IsWithin}
+use Rattle.zn_stand.specs.Calls.{Call, made, IsCallFor}
 use Rattle.zn_files.specs.declared.record.Change.{Change}
 use Rattle.zn_files.specs.declared.record.Change.TheVariants.{Create, Write, SetLen, Sync}
 use Rattle.zn_files.specs.declared.record.Recorded.{Recorded}
 use Rattle.zn_files.specs.declared.traced.Traced.{Traced}
 use Rattle.zn_files.specs.Record.{call_of}
 use Rattle.zn_files.specs.Replays.{replayed, AreCallsFor}
-use Rattle.zn_files.specs.Traces.{Traces, TraceMap, TracesAt, TracesAll, MayTrace}
+use Rattle.zn_files.specs.Traces.{TraceMap, TracesAt, TracesAll, MayTrace}
 
 -- ---- calls
 

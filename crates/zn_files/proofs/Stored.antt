@@ -1,6 +1,6 @@
 -- Files of a directory in memory.
-use Rattle.std.proofs.Common.{◌≡◌, List, ℕ, Option, Result, Ok, Err, cond, Some, None, inl, inr, refl, sym, ap, ◌∙◌}
-use Rattle.std.specs.Prelude.{◌≢◌, is_ok, OnOk, OnErr}
+use Rattle.std.proofs.Common.{◌≡◌, List, ℕ, Result, Ok, Err, cond, Some, inl, inr, sym, ap, ◌∙◌}
+use Rattle.std.specs.Prelude.{is_ok, OnOk, OnErr}
 use Rattle.std.specs.BTreeMap.{get_by_text}
 use Rattle.std.specs.Global.{Vec}
 use Rattle.std.specs.Option.{option_map}

@@ -1,15 +1,13 @@
 -- Maps by name.
-use Rattle.std.proofs.Common.{◌≡◌, ◌⊎◌, inl, inr, ℕ, Bool, true, false, cond, List, Option, Some, None, Global, String, refl, sym, ap, ◌∙◌, subst, arith}
+use Rattle.std.proofs.Common.{◌≡◌, inl, inr, Bool, false, cond, Option, Some, None, Global, String, refl, sym, ap, ◌∙◌}
 use Rattle.std.specs.Prelude.{◌≢◌, is_some}
 use Rattle.std.specs.BTreeMap.{BTreeMap, UpdatesBy, get_by_text}
-use Rattle.std.specs.Map.{update}
 use Rattle.std.specs.Ordering.{is_eq, nat_cmp}
 use Rattle.std.specs.Cmp.Lexicographic.{slice_cmp}
-use Rattle.std.specs.Str.{bytes_eq}
 use Rattle.std.specs.String.{string_bytes, string_cmp}
 use Rattle.std.proofs.lemmas.Map.Text.{btree_map_updates_text, is_eq-slice_cmp}
 use Rattle.std.proofs.lemmas.Cmp.{nat_list_cmp_total, tied_itself}
-use Rattle.zn_stand.specs.Maps.{Name, name_cmp}
+use Rattle.zn_stand.specs.Maps.{Name}
 use Rattle.zn_stand.proofs.NameMaps.{same_name}
 
 -- a map in which one name has a new value, or none, and each other what it had

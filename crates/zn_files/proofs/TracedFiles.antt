@@ -1,9 +1,8 @@
 -- The traces of files.
-use Rattle.std.proofs.Common.{◌≡◌, inl, inr, true, Option, Some, None, cond, refl, sym, ap, ◌∙◌, subst}
+use Rattle.std.proofs.Common.{◌≡◌, inl, inr, true, Option, Some, None, cond, refl, sym, subst}
 use Rattle.std.specs.Prelude.{is_some}
 use Rattle.std.specs.BTreeMap.{get_by_text}
 use Rattle.std.specs.Option.{option_map}
-use Rattle.std.proofs.lemmas.Option.{same_Some}
 use Rattle.zn_stand.specs.File.{File, created}
 use Rattle.zn_stand.specs.Maps.{Name}
 use Rattle.zn_stand.specs.Directory.{Directory, file_at, with_file}

@@ -1,5 +1,5 @@
 -- The images of a directory that are named. (own)
-use Rattle.std.specs.Prelude.{◌≡◌, ℕ, ◌<◌, List, length, map, slice_index, Option, Some, is_some, ⊤, if◌then◌else◌}
+use Rattle.std.specs.Prelude.{ℕ, List, length, map, slice_index, Option, Some, is_some, if◌then◌else◌}
 use Rattle.std.specs.List.{range_with_len}
 use Rattle.zn_stand.specs.File.{File, value_left}
 use Rattle.zn_stand.specs.Maps.{mapped}
@@ -20,9 +20,3 @@ left_by (Filled value) f = Some (filled value f)
 -- what is left of a directory by a choice, of each file by itself
 abbrev pub image_by : Choice → Directory → Contents
 image_by choice d = mapped (left_by choice) d
-
--- a value that is filled in is a byte
-abbrev pub IsChoice : Choice → Type 0
-IsChoice Least = ⊤
-IsChoice Most = ⊤
-IsChoice (Filled value) = value < 256

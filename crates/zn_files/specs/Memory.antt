@@ -1,5 +1,5 @@
 -- What a directory in memory is to its callers. (own)
-use Rattle.std.specs.Prelude.{List, map}
+use Rattle.std.specs.Prelude.{map}
 use Rattle.zn_files.specs.declared.memory.MemFiles.{MemFiles}
 use Rattle.zn_files.specs.Record.{call_of, recorded_of}
 use Rattle.zn_files.specs.MemStates.{MemState, files_state}

@@ -1,5 +1,5 @@
 -- The calls that a directory in memory keeps. (own)
-use Rattle.std.specs.Prelude.{ℕ, List, map}
+use Rattle.std.specs.Prelude.{ℕ}
 use Rattle.std.specs.String.{string_bytes}
 use Rattle.zn_stand.specs.Calls.{Call, WriteFrom, SetLength, CreateFile, SyncFile}
 use Rattle.zn_files.specs.declared.record.Change.{Change}

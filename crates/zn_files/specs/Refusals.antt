@@ -1,5 +1,5 @@
 -- For which names a call on a directory is refused. (own)
-use Rattle.std.specs.Prelude.{ℕ, Option, Some, None, is_some, if◌then◌else◌}
+use Rattle.std.specs.Prelude.{Option, Some, None, is_some, if◌then◌else◌}
 use Rattle.zn_stand.specs.Maps.{Name}
 use Rattle.zn_stand.specs.Directory.{Directory, file_at}
 use Rattle.zn_stand.specs.Calls.{Call, TellNames, TellLen, ReadFrom, WriteFrom, SetLength, CreateFile, SyncFile}

@@ -36,7 +36,7 @@ calls_prop d (call ∷ calls) = hlevel (call_prop d call, calls_prop (made call 
 pub sound_prop : (given : List Call) (made : List (ℕ × Call)) (store : Store) → IsProp (IsSoundMemory given made store)
 sound_prop given made store = hlevel (props, calls_prop)
 
-empty_sound : IsSoundDirectory empty
+pub empty_sound : IsSoundDirectory empty
 empty_sound name f is = absurd (cc (is, get-empty {X = File} name_cmp name))
 
 -- what calls make of a sound directory is sound

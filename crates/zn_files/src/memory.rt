@@ -40,8 +40,7 @@ pub struct MemFiles {
     /// How many calls there were, but for those that lacked memory.
     calls: u64,
     faults: u64,
-    ghost sound: { IsSoundMemory (map call_of given.items) (map recorded_of made.items) files }
-        by { sound_prop (map call_of given.items) (map recorded_of made.items) files },
+    ghost sound: { IsSoundMemory (map call_of given.items) (map recorded_of made.items) files } by { sound_prop (map call_of given.items) (map recorded_of made.items) files },
 }
 
 /// Counts a call of this kind.
@@ -106,7 +105,7 @@ impl MemFiles {
     pub fn fail(&mut self, call: FileCall, nth: u64) -> Result<(), AllocError>
         requires { 1 ≤ nth }
         ensures ok { OnOk result (mem_state self.new ≡ record (mem_state self.old) {
-            listed = (mem_state self.old).listed ++ (record { call = call; left = nth }) ∷ [];
+          listed = (mem_state self.old).listed ++ (record { call = call; left = nth }) ∷ [];
         }) }
         ensures err { OnErr result (mem_state self.new ≡ mem_state self.old) }
     {
@@ -177,7 +176,12 @@ impl Files for MemFiles {
         ensures names { (d : Directory) → directory (state_of self.old) ≡ Some d → IfOk result (λ names. names ≡ keys d) }
         ensures exact { MemCalled TellNames result (mem_state self.old) (mem_state self.new) }
     {
-        if is_struck(&mut self.listed, &mut self.calls, &mut self.faults, FileCall::Names) {
+        if is_struck(
+            &mut self.listed,
+            &mut self.calls,
+            &mut self.faults,
+            FileCall::Names,
+        ) {
             return Err(FileError::Fault);
         }
         let names = names_of(self.alloc, &self.files)?;
@@ -190,7 +194,12 @@ impl Files for MemFiles {
         ensures len { WhereTold (state_of self.old) name.now (λ bytes. IfOk result (λ len. len ≡ length bytes)) }
         ensures exact { MemCalled (TellLen name.now) result (mem_state self.old) (mem_state self.new) }
     {
-        if is_struck(&mut self.listed, &mut self.calls, &mut self.faults, FileCall::Len) {
+        if is_struck(
+            &mut self.listed,
+            &mut self.calls,
+            &mut self.faults,
+            FileCall::Len,
+        ) {
             return Err(FileError::Fault);
         }
         count(&mut self.listed, &mut self.calls, FileCall::Len);
@@ -208,7 +217,12 @@ impl Files for MemFiles {
         ensures exact { MemCalled (ReadFrom name.now at (length out.old)) result
             (mem_state self.old) (mem_state self.new) }
     {
-        if is_struck(&mut self.listed, &mut self.calls, &mut self.faults, FileCall::ReadAt) {
+        if is_struck(
+            &mut self.listed,
+            &mut self.calls,
+            &mut self.faults,
+            FileCall::ReadAt,
+        ) {
             return Err(FileError::Fault);
         }
         count(&mut self.listed, &mut self.calls, FileCall::ReadAt);
@@ -226,7 +240,12 @@ impl Files for MemFiles {
         ensures done { Called (WriteFrom name.now at bytes.now) result (state_of self.old) (state_of self.new) }
         ensures exact { MemCalled (WriteFrom name.now at bytes.now) result (mem_state self.old) (mem_state self.new) }
     {
-        if is_struck(&mut self.listed, &mut self.calls, &mut self.faults, FileCall::WriteAt) {
+        if is_struck(
+            &mut self.listed,
+            &mut self.calls,
+            &mut self.faults,
+            FileCall::WriteAt,
+        ) {
             return Err(FileError::Fault);
         }
         if !self.files.contains_key(name) {
@@ -248,7 +267,12 @@ impl Files for MemFiles {
         ensures done { Called (SetLength name.now len) result (state_of self.old) (state_of self.new) }
         ensures exact { MemCalled (SetLength name.now len) result (mem_state self.old) (mem_state self.new) }
     {
-        if is_struck(&mut self.listed, &mut self.calls, &mut self.faults, FileCall::SetLen) {
+        if is_struck(
+            &mut self.listed,
+            &mut self.calls,
+            &mut self.faults,
+            FileCall::SetLen,
+        ) {
             return Err(FileError::Fault);
         }
         if !self.files.contains_key(name) {
@@ -270,7 +294,12 @@ impl Files for MemFiles {
         ensures done { Called (CreateFile name.now) result (state_of self.old) (state_of self.new) }
         ensures exact { MemCalled (CreateFile name.now) result (mem_state self.old) (mem_state self.new) }
     {
-        if is_struck(&mut self.listed, &mut self.calls, &mut self.faults, FileCall::Create) {
+        if is_struck(
+            &mut self.listed,
+            &mut self.calls,
+            &mut self.faults,
+            FileCall::Create,
+        ) {
             return Err(FileError::Fault);
         }
         if self.files.contains_key(name) {
@@ -292,7 +321,12 @@ impl Files for MemFiles {
         ensures done { Called (SyncFile name.now) result (state_of self.old) (state_of self.new) }
         ensures exact { MemCalled (SyncFile name.now) result (mem_state self.old) (mem_state self.new) }
     {
-        if is_struck(&mut self.listed, &mut self.calls, &mut self.faults, FileCall::Sync) {
+        if is_struck(
+            &mut self.listed,
+            &mut self.calls,
+            &mut self.faults,
+            FileCall::Sync,
+        ) {
             return Err(FileError::Fault);
         }
         if !self.files.contains_key(name) {

@@ -34,11 +34,7 @@ pub fn write_call(alloc: Global, name: &str, at: u64, bytes: &[u8]) -> Result<Ch
     ensures call { IfOk result (λ change. call_of change ≡ WriteFrom name.now at bytes.now) }
     ensures bytes { AreBytes bytes.now }
 {
-    Ok(Change::Write(
-        String::from_str(alloc, name)?,
-        at,
-        bytes.to_vec(alloc)?,
-    ))
+    Ok(Change::Write(String::from_str(alloc, name)?, at, bytes.to_vec(alloc)?))
 }
 
 /// The call that cuts or grows a file.

@@ -11,12 +11,7 @@ use std::collections::BTreeMap;
 pub type Store = BTreeMap<String, Vec<u8>>;
 
 /// Writes bytes to a file from `at` on, if it is there.
-pub fn write_stored(
-    files: &mut Store,
-    name: &str,
-    at: u64,
-    bytes: &[u8],
-) -> Result<(), AllocError>
+pub fn write_stored(files: &mut Store, name: &str, at: u64, bytes: &[u8]) -> Result<(), AllocError>
     requires { (old : List ℕ) → bytes_in files.old name.now ≡ Some old → at ≤ length old }
     ensures ok { OnOk result (ChangesStored files.old files.new name.now (λ old. replaced old at bytes.now)) }
     ensures err { OnErr result (SameStored files.old files.new) }

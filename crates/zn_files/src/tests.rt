@@ -27,7 +27,11 @@ fn make(rt: &HostRuntime, files: &mut MemFiles, step: Step) -> Result<Result<(),
 }
 
 /// The names of all files, each with the runs of its bytes.
-fn text_of(rt: &(impl Abort + Alloc), files: &mut MemFiles, sink: &mut MemSink) -> Result<(), Fail> {
+fn text_of(
+    rt: &(impl Abort + Alloc),
+    files: &mut MemFiles,
+    sink: &mut MemSink,
+) -> Result<(), Fail> {
     let Ok(names) = files.names() else {
         return Ok(());
     };
@@ -103,7 +107,11 @@ const RUNS: [Run; 5] = [
             ["", "a=61*8192 ", "a=ee*8192 "],
             ["a=61*8192 ", "a=61*8192 ", "a=61*8192 "],
             ["a=61*8192 ", "a=61*4096+62*4096 ", "a=61*4096+ee*4096 "],
-            ["a=61*4096+62*4096 ", "a=61*4096+62*4096 ", "a=61*4096+62*4096 "],
+            [
+                "a=61*4096+62*4096 ",
+                "a=61*4096+62*4096 ",
+                "a=61*4096+62*4096 ",
+            ],
         ],
     },
     // A file that is never synced grows by zeros, and one of them is written over.
@@ -165,13 +173,21 @@ fn leaves_images(rt: HostRuntime) -> Result<(), Fail> {
                 assert_eq!(rt; image.calls(), 0);
                 let mut sink = MemSink::new(rt.alloc(), 256, Vec::new(rt.alloc()))?;
                 text_of(&rt, &mut image, &mut sink)?;
-                assert_eq!(rt; sink.bytes(), left[i].as_bytes(), "after {calls} calls, choice {i}");
+                assert_eq!(rt;
+                    sink.bytes(),
+                    left[i].as_bytes(),
+                    "after {calls} calls, choice {i}"
+                );
                 // What is left is at rest.
                 for choice in CHOICES {
                     let mut again = image.image(0, choice)?;
                     let mut sink = MemSink::new(rt.alloc(), 256, Vec::new(rt.alloc()))?;
                     text_of(&rt, &mut again, &mut sink)?;
-                    assert_eq!(rt; sink.bytes(), left[i].as_bytes(), "again after {calls} calls");
+                    assert_eq!(rt;
+                        sink.bytes(),
+                        left[i].as_bytes(),
+                        "again after {calls} calls"
+                    );
                 }
             }
         }

@@ -1,15 +1,11 @@
-use Rattle.std.proofs.Common.{◌≡◌, ◌∷◌, sym, ap, ◌∙◌, subst, List, [], String, Global}
-use Rattle.std.specs.Option.{option_map}
-use Rattle.std.specs.String.{string_bytes}
+use Rattle.std.proofs.Common.{◌≡◌, sym, ap, ◌∙◌, subst, List, [], String, Global}
 use Rattle.zn_stand.specs.File.{at_rest}
 use Rattle.std.specs.FinMap.{insert}
-use Rattle.zn_stand.specs.Directory.{Directory, file_at}
+use Rattle.zn_stand.specs.Directory.{file_at}
 use Rattle.zn_files.specs.declared.traced.Traced.{Traced}
 use Rattle.zn_files.specs.declared.memory.MemFiles.{MemFiles}
-use Rattle.zn_files.specs.Images.{left_by}
 use Rattle.zn_files.specs.Memory.{mem_state}
-use Rattle.zn_files.specs.MemStates.{MemState, first}
-use Rattle.zn_files.specs.Traces.{Traces}
+use Rattle.zn_files.specs.MemStates.{first}
 use Rattle.zn_files.proofs.Imaging.{IsPartImage, only_given, fresh_state, fresh_after, part_first, part_skipped, part_given, part_absent, part_last}
 use Rattle.zn_files.proofs.images.image_of.Goals as goal
 use Rattle.zn_files.proofs.images.image_of.Goals.{in-Some-left+in_ok-give, in_default}
@@ -32,8 +28,8 @@ loop-name-preserved c =
         fresh = subst (λ (m : MemFiles). mem_state m ≡ only_given (mem_state m).given) (sym w.image-is) (fresh_after (mem_state c.loop-name.image) (mem_state w.give.new.self) c.loop-name.invariant.fresh w.in_ok-give.ensures.same);
         part = subst (λ (m : MemFiles). IsPartImage c.args.choice c.args.files.entries c.next.new.self (first (mem_state m))) (sym w.image-is)
             (part_given c.args.choice c.args.files.entries c.next.new.self c.in-Some.name c.in-Some.file (first (mem_state c.loop-name.image)) (first (mem_state w.give.new.self)) w.in-Some-left.bytes.items part
-                (λ f traces. sym (w.in-Some-left.ensures f traces))
-                (w.in_ok-give.ensures.given ∙ ap (λ n. insert (first (mem_state c.loop-name.image)) n (at_rest w.in-Some-left.bytes.items)) w.as_str.ensures.value));
+            (λ f traces. sym (w.in-Some-left.ensures f traces))
+            (w.in_ok-give.ensures.given ∙ ap (λ n. insert (first (mem_state c.loop-name.image)) n (at_rest w.in-Some-left.bytes.items)) w.as_str.ensures.value));
       }
       | in_default w ↦ record {
         can = tt;
@@ -51,4 +47,4 @@ pub give-requires-clause-absent : goal.give-requires-clause-absent
 give-requires-clause-absent c =
     ap (file_at (first (mem_state c.loop-name.image))) c.as_str.ensures.value
     ∙ part_absent c.args.choice c.args.files.entries c.next.new.self c.in-Some.name c.in-Some.file (first (mem_state c.loop-name.image))
-        (subst (λ (left : List (String Global × Traced)). IsPartImage c.args.choice c.args.files.entries left (first (mem_state c.loop-name.image))) c.in-Some.ensures.steps c.loop-name.invariant.part)
+    (subst (λ (left : List (String Global × Traced)). IsPartImage c.args.choice c.args.files.entries left (first (mem_state c.loop-name.image))) c.in-Some.ensures.steps c.loop-name.invariant.part)

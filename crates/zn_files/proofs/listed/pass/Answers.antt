@@ -1,4 +1,4 @@
-use Rattle.std.proofs.Common.{arith, ap, sym, ◌∙◌, set}
+use Rattle.std.proofs.Common.{arith, ap, ◌∙◌, set}
 use Rattle.std.proofs.lemmas.List.Edits.{map_over_more}
 use Rattle.zn_files.specs.Listed.{passed_one}
 use Rattle.zn_files.proofs.listed.pass.Goals as goal

@@ -1,4 +1,4 @@
-use Rattle.std.proofs.Common.{◌≡◌, ◌++◌, map, String, Global, List}
+use Rattle.std.proofs.Common.{◌≡◌, ◌++◌, map}
 use Rattle.std.specs.BTreeMap as tree
 use Rattle.std.specs.String.{string_bytes, string_cmp}
 use Rattle.zn_files.proofs.memory.names_of.Given as goal

@@ -10,7 +10,7 @@ pub trace-requires : goal.trace-requires
 trace-requires c =
     let d : Directory = replayed c.requires.from (map call_of (take c.loop-change.change-index c.args.changes.now)) in
     may_trace c.loop-change.files d c.change-item.result (c.loop-change.invariant.so_far c.requires.from c.requires.traced)
-        (call_fits call_of c.requires.from c.args.changes.now c.loop-change.change-index c.change-item.result c.loop-change-test.true c.change-item.is c.requires.calls)
+    (call_fits call_of c.requires.from c.args.changes.now c.loop-change.change-index c.change-item.result c.loop-change-test.true c.change-item.is c.requires.calls)
 
 pub loop-change-preserved : goal.loop-change-preserved
 loop-change-preserved c = record {

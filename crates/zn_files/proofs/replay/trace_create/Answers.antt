@@ -1,4 +1,4 @@
-use Rattle.std.proofs.Common.{sym, subst, List, ℕ, Some}
+use Rattle.std.proofs.Common.{subst, List, ℕ, Some}
 use Rattle.std.specs.BTreeMap.{get_by_text}
 use Rattle.zn_files.proofs.TextMaps.{Updated, none_there}
 use Rattle.zn_files.proofs.TracedFiles.{created_traced}

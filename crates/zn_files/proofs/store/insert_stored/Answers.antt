@@ -1,4 +1,4 @@
-use Rattle.std.proofs.Common.{rules, sym, subst, List, ℕ, Some}
+use Rattle.std.proofs.Common.{subst, List, ℕ, Some}
 use Rattle.zn_files.proofs.TextMaps.{Updated}
 use Rattle.zn_files.proofs.Stored.{added_in}
 use Rattle.zn_files.proofs.store.insert_stored.Goals as goal

@@ -1,7 +1,5 @@
 use Rattle.std.proofs.Common.{ap, map}
 use Rattle.zn_files.specs.Record.{call_of, recorded_of}
-use Rattle.zn_files.proofs.MemCalls.{struck_called}
-use Rattle.zn_files.proofs.MemSteps.{struck_here}
 use Rattle.zn_files.proofs.MemFirst.{first_sound}
 use Rattle.zn_files.proofs.memory.MemFiles.new.Goals as goal
 

@@ -1,4 +1,4 @@
-use Rattle.std.proofs.Common.{arith, rules, ap, sym, refl, length, None}
+use Rattle.std.proofs.Common.{arith, ap, sym, refl, length}
 use Rattle.zn_stand.specs.Calls.{TellLen}
 use Rattle.zn_files.specs.declared.error.FileError.TheVariants.{Missing}
 use Rattle.zn_files.proofs.MemSteps.{bytes_here, missing_there, there_now, struck_here, refused_here, looked_here}

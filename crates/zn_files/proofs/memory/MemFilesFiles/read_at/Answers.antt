@@ -1,7 +1,7 @@
-use Rattle.std.proofs.Common.{arith, rules, ◌≡◌, ◌≤◌, ◌+◌, ◌∙◌, ap, sym, refl, length, take, drop, List, ℕ, None}
+use Rattle.std.proofs.Common.{arith, ◌≤◌, ◌+◌, ◌∙◌, ap, sym, refl, length, take, drop, List, ℕ}
 use Rattle.zn_stand.specs.Calls.{ReadFrom}
 use Rattle.zn_files.specs.declared.error.FileError.TheVariants.{Missing}
-use Rattle.zn_files.proofs.MemSteps.{bytes_here, held_within, told_here, missing_there, there_now, struck_here, refused_here, looked_here}
+use Rattle.zn_files.proofs.MemSteps.{bytes_here, held_within, missing_there, there_now, struck_here, refused_here, looked_here}
 use Rattle.zn_files.proofs.memory.MemFilesFiles.read_at.Goals as goal
 
 pub returns-then-is_struck-clause-done : goal.returns-then-is_struck-clause-done

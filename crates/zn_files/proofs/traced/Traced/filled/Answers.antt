@@ -1,24 +1,15 @@
-use Rattle.std.proofs.Common.{arith, zero-add, ◌≡◌, ◌≢◌, ◌+◌, true, false, inl, inr, subst, refl, ℕ, ◌<◌, List, length, get_or, map, sym, ap, ◌∙◌}
+use Rattle.std.proofs.Common.{arith, ◌≡◌, ◌+◌, true, false, subst, refl, ℕ, ◌<◌, List, length, get_or, sym, ap, ◌∙◌}
 use Rattle.std.proofs.lemmas.Grind.{get_or-set_at}
 use Rattle.std.specs.Prelude.{Bool, slice_set, is_some, nat_lt, not, ◌&&◌, if◌then◌else◌}
-use Rattle.std.specs.List.{range_with_len}
 use Rattle.std.proofs.lemmas.Bool.Decides.{nat_tests}
-use Rattle.std.proofs.lemmas.List.{ext_get_or, get_or-map, get_or-set_other, length-map, length-set}
-use Rattle.std.proofs.lemmas.List.FromFn.{get_or-range_with_len, length-range_with_len}
-use Rattle.zn_stand.specs.File.{File, value_left}
+use Rattle.std.proofs.lemmas.List.{ext_get_or, get_or-set_other, length-set}
+use Rattle.zn_stand.specs.File.{value_left}
 use Rattle.zn_files.specs.Images.{filled}
-use Rattle.zn_files.specs.Traces.{Traces, TracesSync}
+use Rattle.zn_files.specs.Traces.{TracesSync}
 use Rattle.zn_files.specs.declared.traced.Traced.{Traced}
+use Rattle.zn_files.proofs.Leaving.{length-filled, filled_at}
 use Rattle.zn_files.proofs.traced.Traced.filled.Goals as goal
 use Rattle.zn_files.proofs.traced.Traced.filled.Goals.{then-is_free, else-is_free}
-
-length-filled : (value : ℕ) (f : File) → length (filled value f) ≡ length f.bytes
-length-filled value f = length-map (range_with_len 0 (length f.bytes)) (λ i. if is_some (value_left f i) then get_or f.bytes i 0 else value) ∙ length-range_with_len 0 (length f.bytes)
-
-filled_at : (value : ℕ) (f : File) (i : ℕ) → i < length f.bytes → get_or (filled value f) i 0 ≡ (if is_some (value_left f i) then get_or f.bytes i 0 else value)
-filled_at value f i h =
-    get_or-map (λ k. if is_some (value_left f k) then get_or f.bytes k 0 else value) (range_with_len 0 (length f.bytes)) i 0 0 (omega (arith, length-range_with_len 0 (length f.bytes)))
-    ∙ ap (λ k. if is_some (value_left f k) then get_or f.bytes k 0 else value) (get_or-range_with_len 0 (length f.bytes) i 0 h ∙ zero-add i)
 
 fill_here : (i n len value byte : ℕ) (b : Bool) → i < n → i < len → (if nat_lt i n && not b && nat_lt i len then value else byte) ≡ (if b then byte else value)
 fill_here i n len value byte b in_n in_len = grind (arith, nat_tests)

@@ -1,4 +1,4 @@
-use Rattle.std.proofs.Common.{◌≡◌, ℕ, ◌<◌, length, get_or}
+use Rattle.std.proofs.Common.{◌≡◌, ℕ, length, get_or}
 use Rattle.std.specs.Prelude.{is_some, nat_lt, if◌then◌else◌, ◌&&◌, not}
 use Rattle.zn_stand.specs.File.{File, value_left}
 use Rattle.zn_files.specs.Traces.{Traces, TracesSync}
