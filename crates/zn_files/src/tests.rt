@@ -1,4 +1,4 @@
-use crate::{Choice, FileCall, FileError, Files, MemFiles};
+use crate::{Choice, FileCall, FileError, Files, MemFiles, Names, Text};
 use std::alloc::Global;
 use std::process::Abort;
 use std::test::Fail;
@@ -14,12 +14,31 @@ enum Step {
     Sync(&'static str),
 }
 
-fn make(rt: &HostRuntime, files: &mut MemFiles, step: Step) -> Result<Result<(), FileError>, Fail> {
+/// Writes within a file, or at its end.
+fn write(
+    rt: &impl Abort,
+    files: &mut MemFiles,
+    name: &str,
+    at: u64,
+    bytes: &[u8],
+) -> Result<(), FileError> {
+    let Ok(len) = files.len(name) else {
+        panic!(rt; "no length");
+    };
+    assert!(rt; at <= len);
+    files.write_at(name, at, bytes)
+}
+
+fn make(
+    rt: &(impl Abort + Alloc),
+    files: &mut MemFiles,
+    step: Step,
+) -> Result<Result<(), FileError>, Fail> {
     Ok(match step {
         Step::Create(name) => files.create(name),
         Step::Write(name, at, value, count) => {
             let bytes = vec![in rt.alloc(); value; count]?;
-            files.write_at(name, at, &bytes)
+            write(rt, files, name, at, &bytes)
         }
         Step::SetLen(name, len) => files.set_len(name, len),
         Step::Sync(name) => files.sync(name),
@@ -33,12 +52,12 @@ fn text_of(
     sink: &mut MemSink,
 ) -> Result<(), Fail> {
     let Ok(names) = files.names() else {
-        return Ok(());
+        panic!(rt; "no names");
     };
     for i in 0..names.count() {
         let name = names.at(i);
         let Ok(len) = files.len(name) else {
-            return Ok(());
+            panic!(rt; "no length");
         };
         let mut bytes = vec![in rt.alloc(); 0; len as usize]?;
         assert!(rt; files.read_at(name, 0, &mut bytes).is_ok());
@@ -50,7 +69,7 @@ fn text_of(
     Ok(())
 }
 
-/// Calls, and after each number of them what a stop may leave: the least, the most, and the most with 0xee in each byte
+/// Steps, and after each number of them what a stop may leave: the least, the most, and the most with 0xee in each byte
 /// that may be anything.
 struct Run {
     steps: &'static [Step],
@@ -160,34 +179,34 @@ const CHOICES: [Choice; 3] = [Choice::Least, Choice::Most, Choice::Filled(0xee)]
 fn leaves_images(rt: HostRuntime) -> Result<(), Fail> {
     for run in &RUNS {
         let mut files = MemFiles::new(rt.alloc());
+        // How many calls there were after each step.
+        let mut after: Vec<u64> = Vec::new(rt.alloc());
+        after.push(0)?;
         for step in run.steps {
             assert_eq!(rt; make(&rt, &mut files, *step)?, Ok(()));
+            after.push(files.calls())?;
         }
-        assert_eq!(rt; files.calls() as usize, run.steps.len());
-        for (calls, left) in run.left.iter().enumerate() {
+        assert_eq!(rt; after.len(), run.left.len());
+        for (step, left) in run.left.iter().enumerate() {
+            assert!(rt; step < after.len());
+            let calls = after[step];
+            assert!(rt; calls <= files.calls());
             for i in 0..3 {
-                if calls as u64 > files.calls() {
-                    continue;
-                }
-                let mut image = files.image(calls as u64, CHOICES[i])?;
+                let mut image = files.image(calls, CHOICES[i])?;
                 assert_eq!(rt; image.calls(), 0);
                 let mut sink = MemSink::new(rt.alloc(), 256, Vec::new(rt.alloc()))?;
                 text_of(&rt, &mut image, &mut sink)?;
                 assert_eq!(rt;
                     sink.bytes(),
                     left[i].as_bytes(),
-                    "after {calls} calls, choice {i}"
+                    "after step {step}, choice {i}"
                 );
                 // What is left is at rest.
                 for choice in CHOICES {
                     let mut again = image.image(0, choice)?;
                     let mut sink = MemSink::new(rt.alloc(), 256, Vec::new(rt.alloc()))?;
                     text_of(&rt, &mut again, &mut sink)?;
-                    assert_eq!(rt;
-                        sink.bytes(),
-                        left[i].as_bytes(),
-                        "again after {calls} calls"
-                    );
+                    assert_eq!(rt; sink.bytes(), left[i].as_bytes(), "again after step {step}");
                 }
             }
         }
@@ -218,5 +237,103 @@ fn fails_by_the_list(rt: HostRuntime) -> Result<(), Fail> {
     }
     assert_eq!(rt; files.faults(), 3);
     assert_eq!(rt; files.calls(), 10);
+    Ok(())
+}
+
+/// A call of this kind on a file that is there, or that creates one that isn't.
+fn call(files: &mut MemFiles, call: FileCall) -> Result<(), FileError> {
+    match call {
+        FileCall::Names => files.names().map(|_| ()),
+        FileCall::Len => files.len("a").map(|_| ()),
+        FileCall::ReadAt => files.read_at("a", 0, &mut []),
+        FileCall::WriteAt => files.write_at("a", 0, b"xyz"),
+        FileCall::SetLen => files.set_len("a", 2),
+        FileCall::Create => files.create("b"),
+        FileCall::Sync => files.sync("a"),
+    }
+}
+
+const KINDS: [FileCall; 7] = [
+    FileCall::Names,
+    FileCall::Len,
+    FileCall::ReadAt,
+    FileCall::WriteAt,
+    FileCall::SetLen,
+    FileCall::Create,
+    FileCall::Sync,
+];
+
+#[test]
+fn does_nothing_where_it_fails(rt: HostRuntime) -> Result<(), Fail> {
+    for kind in KINDS {
+        let mut files = MemFiles::new(rt.alloc());
+        assert_eq!(rt; files.create("a"), Ok(()));
+        files.fail(kind, 1)?;
+        let before = text_in(&rt, rt.alloc(), &files, Choice::Filled(0xee))?;
+        assert_eq!(rt; call(&mut files, kind), Err(FileError::Fault));
+        assert_eq!(rt; files.faults(), 1);
+        assert_eq!(rt; files.calls(), 2);
+        let after = text_in(&rt, rt.alloc(), &files, Choice::Filled(0xee))?;
+        assert_eq!(rt; after.bytes(), before.bytes());
+        assert_eq!(rt; call(&mut files, kind), Ok(()));
+        assert_eq!(rt; files.faults(), 1);
+    }
+    Ok(())
+}
+
+/// What a stop may leave now by a choice.
+fn text_in(
+    rt: &(impl Abort + Alloc),
+    alloc: Global,
+    files: &MemFiles,
+    choice: Choice,
+) -> Result<MemSink, Fail> {
+    let mut sink = MemSink::new(alloc, 256, Vec::new(alloc))?;
+    let mut image = files.image(files.calls(), choice)?;
+    text_of(rt, &mut image, &mut sink)?;
+    Ok(sink)
+}
+
+/// Four bytes of a file.
+fn part_of(rt: &impl Abort, files: &mut MemFiles, name: &str, at: u64) -> [u8; 4] {
+    let mut part = [0; 4];
+    let Ok(len) = files.len(name) else {
+        panic!(rt; "no length");
+    };
+    assert!(rt; 4 <= len);
+    assert!(rt; at <= len - 4);
+    assert!(rt; files.read_at(name, at, &mut part).is_ok());
+    part
+}
+
+#[test]
+fn reads_what_was_written(rt: HostRuntime) -> Result<(), Fail> {
+    let mut files = MemFiles::new(rt.alloc());
+    assert_eq!(rt; files.create("a"), Ok(()));
+    assert_eq!(rt; files.len("a"), Ok(0));
+    assert_eq!(rt; write(&rt, &mut files, "a", 0, b"01234567"), Ok(()));
+    assert_eq!(rt; files.len("a"), Ok(8));
+    assert_eq!(rt; write(&rt, &mut files, "a", 6, b"abcd"), Ok(()));
+    assert_eq!(rt; files.len("a"), Ok(10));
+    assert_eq!(rt; &part_of(&rt, &mut files, "a", 4)[..], &b"45ab"[..]);
+    assert_eq!(rt; files.set_len("a", 2), Ok(()));
+    assert_eq!(rt; files.set_len("a", 4), Ok(()));
+    assert_eq!(rt; &part_of(&rt, &mut files, "a", 0)[..], &b"01\0\0"[..]);
+    assert_eq!(rt; files.faults(), 0);
+    Ok(())
+}
+
+#[test]
+fn puts_names_in_order(rt: HostRuntime) -> Result<(), Fail> {
+    let mut names = Names::new(rt.alloc());
+    names.add("b")?;
+    names.add("a")?;
+    names.add("ba")?;
+    let mut text: Vec<u8> = Vec::new(rt.alloc());
+    for i in 0..names.count() {
+        text.extend_from_slice(Text::new(rt.alloc(), names.at(i).as_bytes())?.as_bytes())?;
+        text.push(b'.')?;
+    }
+    assert_eq!(rt; &text[..], &b"a.b.ba."[..]);
     Ok(())
 }
