@@ -6,7 +6,7 @@ use Rattle.zn_files.specs.MemStates.{MemState, files_state}
 use Rattle.zn_files.specs.States.{FilesState}
 
 abbrev pub mem_state : MemFiles → MemState
-mem_state m = record { given = map call_of m.given.items; made = map recorded_of m.made.items; listed = m.listed.items; calls = m.calls; faults = m.faults }
+mem_state m = record { given = map call_of m.given.items; made = map recorded_of m.made.items; listed = m.tally.listed.items; calls = m.tally.calls; faults = m.tally.faults }
 
 abbrev pub state_of : MemFiles → FilesState
 state_of m = files_state (mem_state m)

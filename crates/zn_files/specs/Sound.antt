@@ -10,6 +10,9 @@ use Rattle.zn_stand.specs.Directory.{Directory, IsSoundDirectory}
 use Rattle.zn_stand.specs.History.{History, newest}
 use Rattle.zn_stand.proofs.Directories.{calls_keep_sound}
 use Rattle.zn_stand.specs.Calls.{Call, TellNames, TellLen, ReadFrom, WriteFrom, SetLength, CreateFile, SyncFile, made, IsCallFor}
+use Rattle.zn_files.specs.declared.record.Change.{Change}
+use Rattle.zn_files.specs.declared.record.Recorded.{Recorded}
+use Rattle.zn_files.specs.Record.{call_of, recorded_of}
 use Rattle.zn_files.specs.Replays.{replayed, histories, AreCallsFor}
 use Rattle.zn_files.specs.Stores.{Store, HoldsFiles}
 
@@ -18,6 +21,10 @@ pub record IsSoundMemory (given : List Call) (made : List (ℕ × Call)) (store 
   pub first : AreCallsFor empty given
   pub since : AreCallsFor (replayed empty given) (map (λ e. e.1) made)
   pub files : HoldsFiles store (replayed (replayed empty given) (map (λ e. e.1) made))
+
+-- the same of what is kept
+abbrev pub IsKept : List Change → List Recorded → Store → Type 0
+IsKept given made store = IsSoundMemory (map call_of given) (map recorded_of made) store
 
 call_prop : (d : Directory) (call : Call) → IsProp (IsCallFor d call)
 call_prop d TellNames = hlevel
@@ -35,6 +42,9 @@ calls_prop d (call ∷ calls) = hlevel (call_prop d call, calls_prop (made call 
 -- there is one proof of it
 pub sound_prop : (given : List Call) (made : List (ℕ × Call)) (store : Store) → IsProp (IsSoundMemory given made store)
 sound_prop given made store = hlevel (props, calls_prop)
+
+pub kept_prop : (given : List Change) (made : List Recorded) (store : Store) → IsProp (IsKept given made store)
+kept_prop given made store = sound_prop (map call_of given) (map recorded_of made) store
 
 pub empty_sound : IsSoundDirectory empty
 empty_sound name f is = absurd (cc (is, get-empty {X = File} name_cmp name))
@@ -55,3 +65,6 @@ sound_memory given made store sound = replayed_sound (replayed empty given) (map
 pub sound_now : (given : List Call) (made : List (ℕ × Call)) (store : Store) (d : Directory) → IsSoundMemory given made store → newest (histories [] (replayed empty given) (map (λ e. e.1) made)) ≡ Some d → IsSoundDirectory d
 sound_now given made store d sound is =
     subst IsSoundDirectory (same_Some (replayed (replayed empty given) (map (λ e. e.1) made)) d (sym (newest-histories [] (replayed empty given) (map (λ e. e.1) made)) ∙ is)) (sound_memory given made store sound)
+
+pub kept_now : (given : List Change) (made : List Recorded) (store : Store) (d : Directory) → IsKept given made store → newest (histories [] (replayed empty (map call_of given)) (map (λ e. e.1) (map recorded_of made))) ≡ Some d → IsSoundDirectory d
+kept_now given made store d sound is = sound_now (map call_of given) (map recorded_of made) store d sound is

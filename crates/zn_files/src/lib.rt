@@ -11,6 +11,7 @@ mod names;
 mod record;
 mod replay;
 mod store;
+mod tally;
 mod texts;
 mod traced;
 

@@ -1,25 +1,22 @@
 // A directory in memory, whose calls fail by a list, and which keeps each call that changes it.
 ghost use Rattle.std.specs.Prelude.{◌≡◌, ◌+◌, ◌<◌, ◌≤◌, vec_len, vec_capacity, ◌++◌, ◌∷◌, [], map, length, take, drop, Some, None, IfOk, OnOk, OnErr};
-ghost use Rattle.std.specs.Bool.{OnTrue, OnFalse};
 ghost use Rattle.std.specs.BTreeMap as tree;
 ghost use Rattle.std.specs.FinMap.{keys};
 ghost use Rattle.std.specs.String.{string_bytes, string_cmp};
-ghost use Rattle.zn_base.specs.Causes.{one_more};
 ghost use Rattle.zn_stand.specs.Directory.{Directory, contents, rested, IsImageOf};
 ghost use Rattle.zn_stand.specs.Calls.{TellNames, TellLen, ReadFrom, WriteFrom, SetLength, CreateFile, SyncFile};
-ghost use Rattle.zn_files.specs.Listed.{is_due, passed};
-ghost use Rattle.zn_files.specs.Record.{call_of, recorded_of};
-ghost use Rattle.zn_files.specs.Sound.{IsSoundMemory, sound_prop, sound_now};
+ghost use Rattle.zn_files.specs.Record.{call_of};
+ghost use Rattle.zn_files.specs.Sound.{IsKept, kept_prop, kept_now};
 ghost use Rattle.zn_files.specs.Images.{image_by};
 ghost use Rattle.zn_files.specs.States.{directory, WhereTold, Called};
 ghost use Rattle.zn_files.specs.MemStates.{MemCalled, first, directory_after, files_state};
 
 use crate::bytes::read_bytes;
 use crate::images::{Choice, image_of};
-use crate::listed::{Listed, is_due, pass};
 use crate::record::{Change, Recorded, create_call, set_len_call, sync_call, write_call};
 use crate::replay::{trace_all, trace_until};
 use crate::store::{Store, insert_stored, resize_stored, write_stored};
+use crate::tally::Tally;
 use crate::{FileCall, FileError, Files, Names};
 use std::alloc::{AllocError, Global};
 use std::collections::BTreeMap;
@@ -35,40 +32,8 @@ pub struct MemFiles {
     made: Vec<Recorded>,
     /// What a read gives.
     files: Store,
-    /// Which calls are to fail.
-    listed: Vec<Listed>,
-    /// How many calls there were, but for those that lacked memory.
-    calls: u64,
-    faults: u64,
-    ghost sound: { IsSoundMemory (map call_of given.items) (map recorded_of made.items) files } by { sound_prop (map call_of given.items) (map recorded_of made.items) files },
-}
-
-/// Counts a call of this kind.
-fn count(listed: &mut Vec<Listed>, calls: &mut u64, call: FileCall)
-    ensures listed { listed.new.items ≡ passed listed.old.items call }
-    ensures calls { calls.new ≡ one_more calls.old }
-{
-    pass(listed, call);
-    *calls = calls.saturating_add(1);
-}
-
-/// Whether this call is to fail; then it is counted, and so is its fault.
-fn is_struck(listed: &mut Vec<Listed>, calls: &mut u64, faults: &mut u64, call: FileCall) -> bool
-    ensures due { result ≡ is_due listed.old.items call }
-    ensures listed { OnTrue result (listed.new.items ≡ passed listed.old.items call) }
-    ensures calls { OnTrue result (calls.new ≡ one_more calls.old) }
-    ensures faults { OnTrue result (faults.new ≡ one_more faults.old) }
-    ensures no_fewer { faults.old ≤ faults.new }
-    ensures listed_same { OnFalse result (listed.new.items ≡ listed.old.items) }
-    ensures calls_same { OnFalse result (calls.new ≡ calls.old) }
-    ensures faults_same { OnFalse result (faults.new ≡ faults.old) }
-{
-    if !is_due(listed, call) {
-        return false;
-    }
-    count(listed, calls, call);
-    *faults = faults.saturating_add(1);
-    true
+    tally: Tally,
+    ghost sound: { IsKept given.items made.items files } by { kept_prop given.items made.items files },
 }
 
 /// The names of all files.
@@ -95,9 +60,7 @@ impl MemFiles {
             given: Vec::new(alloc),
             made: Vec::new(alloc),
             files: BTreeMap::new(alloc),
-            listed: Vec::new(alloc),
-            calls: 0,
-            faults: 0,
+            tally: Tally::new(alloc),
         }
     }
 
@@ -109,15 +72,14 @@ impl MemFiles {
         }) }
         ensures err { OnErr result (mem_state self.new ≡ mem_state self.old) }
     {
-        self.listed.push(Listed { call, left: nth })?;
-        Ok(())
+        self.tally.list(call, nth)
     }
 
     /// How many calls there were, but for those that lacked memory.
     pub fn calls(&self) -> u64
         ensures { result ≡ (mem_state self.now).calls }
     {
-        self.calls
+        self.tally.calls
     }
 
     /// What a stop after so many calls may have left, by this choice: a directory that is synced whole, none of whose
@@ -169,23 +131,19 @@ impl Files for MemFiles {
 
     ghost state = { state_of };
 
-    ghost is_sound = { λ m d is. sound_now (map call_of m.given.items) (map recorded_of m.made.items) m.files d m.sound is };
+    ghost is_sound = { λ m d is. kept_now m.given.items m.made.items m.files d m.sound is };
 
     fn names(&mut self) -> Result<Names, FileError>
         ensures done { Called TellNames result (state_of self.old) (state_of self.new) }
-        ensures names { (d : Directory) → directory (state_of self.old) ≡ Some d → IfOk result (λ names. names ≡ keys d) }
+        ensures names { (d : Directory) → directory (state_of self.old) ≡ Some d
+            → IfOk result (λ names. names ≡ keys d) }
         ensures exact { MemCalled TellNames result (mem_state self.old) (mem_state self.new) }
     {
-        if is_struck(
-            &mut self.listed,
-            &mut self.calls,
-            &mut self.faults,
-            FileCall::Names,
-        ) {
+        if self.tally.is_struck(FileCall::Names) {
             return Err(FileError::Fault);
         }
         let names = names_of(self.alloc, &self.files)?;
-        count(&mut self.listed, &mut self.calls, FileCall::Names);
+        self.tally.count(FileCall::Names);
         Ok(names)
     }
 
@@ -194,15 +152,10 @@ impl Files for MemFiles {
         ensures len { WhereTold (state_of self.old) name.now (λ bytes. IfOk result (λ len. len ≡ length bytes)) }
         ensures exact { MemCalled (TellLen name.now) result (mem_state self.old) (mem_state self.new) }
     {
-        if is_struck(
-            &mut self.listed,
-            &mut self.calls,
-            &mut self.faults,
-            FileCall::Len,
-        ) {
+        if self.tally.is_struck(FileCall::Len) {
             return Err(FileError::Fault);
         }
-        count(&mut self.listed, &mut self.calls, FileCall::Len);
+        self.tally.count(FileCall::Len);
         match self.files.get(name) {
             Some(bytes) => Ok(bytes.len() as u64),
             None => Err(FileError::Missing),
@@ -217,15 +170,10 @@ impl Files for MemFiles {
         ensures exact { MemCalled (ReadFrom name.now at (length out.old)) result
             (mem_state self.old) (mem_state self.new) }
     {
-        if is_struck(
-            &mut self.listed,
-            &mut self.calls,
-            &mut self.faults,
-            FileCall::ReadAt,
-        ) {
+        if self.tally.is_struck(FileCall::ReadAt) {
             return Err(FileError::Fault);
         }
-        count(&mut self.listed, &mut self.calls, FileCall::ReadAt);
+        self.tally.count(FileCall::ReadAt);
         match self.files.get(name) {
             Some(bytes) => {
                 read_bytes(bytes, at as usize, out);
@@ -240,24 +188,19 @@ impl Files for MemFiles {
         ensures done { Called (WriteFrom name.now at bytes.now) result (state_of self.old) (state_of self.new) }
         ensures exact { MemCalled (WriteFrom name.now at bytes.now) result (mem_state self.old) (mem_state self.new) }
     {
-        if is_struck(
-            &mut self.listed,
-            &mut self.calls,
-            &mut self.faults,
-            FileCall::WriteAt,
-        ) {
+        if self.tally.is_struck(FileCall::WriteAt) {
             return Err(FileError::Fault);
         }
         if !self.files.contains_key(name) {
-            count(&mut self.listed, &mut self.calls, FileCall::WriteAt);
+            self.tally.count(FileCall::WriteAt);
             return Err(FileError::Missing);
         }
         let change = write_call(self.alloc, name, at, bytes)?;
         self.made.reserve(1)?;
         write_stored(&mut self.files, name, at, bytes)?;
-        count(&mut self.listed, &mut self.calls, FileCall::WriteAt);
+        self.tally.count(FileCall::WriteAt);
         self.made.push_reserved(Recorded {
-            number: self.calls,
+            number: self.tally.calls,
             change,
         });
         Ok(())
@@ -267,24 +210,19 @@ impl Files for MemFiles {
         ensures done { Called (SetLength name.now len) result (state_of self.old) (state_of self.new) }
         ensures exact { MemCalled (SetLength name.now len) result (mem_state self.old) (mem_state self.new) }
     {
-        if is_struck(
-            &mut self.listed,
-            &mut self.calls,
-            &mut self.faults,
-            FileCall::SetLen,
-        ) {
+        if self.tally.is_struck(FileCall::SetLen) {
             return Err(FileError::Fault);
         }
         if !self.files.contains_key(name) {
-            count(&mut self.listed, &mut self.calls, FileCall::SetLen);
+            self.tally.count(FileCall::SetLen);
             return Err(FileError::Missing);
         }
         let change = set_len_call(self.alloc, name, len)?;
         self.made.reserve(1)?;
         resize_stored(&mut self.files, name, len)?;
-        count(&mut self.listed, &mut self.calls, FileCall::SetLen);
+        self.tally.count(FileCall::SetLen);
         self.made.push_reserved(Recorded {
-            number: self.calls,
+            number: self.tally.calls,
             change,
         });
         Ok(())
@@ -294,24 +232,19 @@ impl Files for MemFiles {
         ensures done { Called (CreateFile name.now) result (state_of self.old) (state_of self.new) }
         ensures exact { MemCalled (CreateFile name.now) result (mem_state self.old) (mem_state self.new) }
     {
-        if is_struck(
-            &mut self.listed,
-            &mut self.calls,
-            &mut self.faults,
-            FileCall::Create,
-        ) {
+        if self.tally.is_struck(FileCall::Create) {
             return Err(FileError::Fault);
         }
         if self.files.contains_key(name) {
-            count(&mut self.listed, &mut self.calls, FileCall::Create);
+            self.tally.count(FileCall::Create);
             return Err(FileError::Exists);
         }
         let change = create_call(self.alloc, name)?;
         self.made.reserve(1)?;
         insert_stored(self.alloc, &mut self.files, name, Vec::new(self.alloc))?;
-        count(&mut self.listed, &mut self.calls, FileCall::Create);
+        self.tally.count(FileCall::Create);
         self.made.push_reserved(Recorded {
-            number: self.calls,
+            number: self.tally.calls,
             change,
         });
         Ok(())
@@ -321,29 +254,24 @@ impl Files for MemFiles {
         ensures done { Called (SyncFile name.now) result (state_of self.old) (state_of self.new) }
         ensures exact { MemCalled (SyncFile name.now) result (mem_state self.old) (mem_state self.new) }
     {
-        if is_struck(
-            &mut self.listed,
-            &mut self.calls,
-            &mut self.faults,
-            FileCall::Sync,
-        ) {
+        if self.tally.is_struck(FileCall::Sync) {
             return Err(FileError::Fault);
         }
         if !self.files.contains_key(name) {
-            count(&mut self.listed, &mut self.calls, FileCall::Sync);
+            self.tally.count(FileCall::Sync);
             return Err(FileError::Missing);
         }
         let change = sync_call(self.alloc, name)?;
         self.made.reserve(1)?;
-        count(&mut self.listed, &mut self.calls, FileCall::Sync);
+        self.tally.count(FileCall::Sync);
         self.made.push_reserved(Recorded {
-            number: self.calls,
+            number: self.tally.calls,
             change,
         });
         Ok(())
     }
 
     fn faults(&self) -> u64 {
-        self.faults
+        self.tally.faults
     }
 }
