@@ -1,0 +1,14 @@
+pub mod NameOrder
+pub mod TextMaps
+pub mod Stored
+pub mod TracedFiles
+pub mod ReplayLaws
+pub mod Rising
+pub mod MemCalls
+pub mod MemFirst
+pub mod MemSteps
+pub mod NameKeys
+pub mod Giving
+pub mod Imaging
+pub mod Leaving
+pub mod Until

@@ -1,0 +1,13 @@
+pub mod Causes
+pub mod Refusals
+pub mod States
+pub mod Names
+pub mod Replays
+pub mod Listed
+pub mod Record
+pub mod MemStates
+pub mod Stores
+pub mod Sound
+pub mod Memory
+pub mod Images
+pub mod Traces

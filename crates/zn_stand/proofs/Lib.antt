@@ -1,0 +1,4 @@
+pub mod Files
+pub mod NameMaps
+pub mod Directories
+pub mod Histories

@@ -1,0 +1,7 @@
+pub mod File
+pub mod Maps
+pub mod Directory
+pub mod Calls
+pub mod History
+pub mod Laws
+pub mod Cases
