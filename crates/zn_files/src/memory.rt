@@ -1,15 +1,14 @@
 // A directory in memory, whose calls fail by a list, and which keeps each call that changes it.
-ghost use Rattle.std.specs.Prelude.{◌≡◌, ◌+◌, ◌<◌, ◌≤◌, vec_len, vec_capacity, ◌++◌, ◌∷◌, [], map, length, take, drop, Some, None, IfOk, OnOk, OnErr};
+ghost use Rattle.std.specs.Prelude.{◌≡◌, ◌+◌, ◌<◌, ◌≤◌, ◌++◌, ◌∷◌, [], map, length, take, drop, Some, None, IfOk, OnOk, OnErr};
 ghost use Rattle.std.specs.BTreeMap as tree;
 ghost use Rattle.std.specs.FinMap.{keys};
 ghost use Rattle.std.specs.String.{string_bytes, string_cmp};
 ghost use Rattle.zn_stand.specs.Directory.{Directory, contents, rested, IsImageOf};
 ghost use Rattle.zn_stand.specs.Calls.{TellNames, TellLen, ReadFrom, WriteFrom, SetLength, CreateFile, SyncFile};
-ghost use Rattle.zn_files.specs.Record.{call_of};
 ghost use Rattle.zn_files.specs.Sound.{IsKept, kept_prop, kept_now};
 ghost use Rattle.zn_files.specs.Images.{image_by};
 ghost use Rattle.zn_files.specs.States.{directory, WhereTold, Called};
-ghost use Rattle.zn_files.specs.MemStates.{MemCalled, first, directory_after, files_state};
+ghost use Rattle.zn_files.specs.MemStates.{MemCalled, first, directory_after};
 
 use crate::bytes::read_bytes;
 use crate::images::{Choice, image_of};
@@ -102,7 +101,7 @@ impl MemFiles {
 
 impl MemFiles {
     ghost use Rattle.std.specs.FinMap.{insert};
-    ghost use Rattle.zn_stand.specs.File.{AreBytes, at_rest};
+    ghost use Rattle.zn_stand.specs.File.{at_rest};
     ghost use Rattle.zn_stand.specs.Directory.{file_at};
     ghost use Rattle.zn_files.specs.Memory.{mem_state};
 
