@@ -1,4 +1,3 @@
-pub mod AdapterLaws
 pub mod DecimalLaws
 pub mod FewestRuns
 pub mod LaneLaws

@@ -1,4 +1,3 @@
-pub mod Adapters
 pub mod Causes
 pub mod Decimals
 pub mod Laws

@@ -2,7 +2,6 @@
 //! the runs of equal bytes that a reply tells, and decimal numbers.
 #![tactic(auto)]
 
-pub mod adapters;
 mod decimals;
 pub mod laws;
 pub mod memory;

@@ -11,7 +11,7 @@ use std::io::{ErrorKind, Write};
 use std::process::ExitCode;
 use std::random::RandomSource;
 use std::{env, io};
-use zn_base::adapters::{ReaderSource, WriterSink};
+use zn_host::{ReaderSource, WriterSink};
 use zn_cli::zonefs_main;
 use zn_run::Status;
 

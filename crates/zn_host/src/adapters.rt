@@ -3,14 +3,14 @@ ghost use Rattle.std.specs.Prelude.{◌≡◌, ◌↔◌, ◌<◌, ◌≤◌, �
 ghost use Rattle.std.specs.Prelude.{[], ◌++◌, take, IfOk, OnOk, IsTrue, length, vec_len};
 ghost use Rattle.std.specs.Io.{ReadsAtMost, WritesAtMost};
 ghost use Rattle.std.specs.Io.KnownBytes.{Appends, ReadConsumes};
-ghost use Rattle.zn_base.specs.Adapters.{EndsLine, Takes, untold_source, untold_sink};
+ghost use Rattle.zn_host.specs.Adapters.{EndsLine, Takes, untold_source, untold_sink};
 ghost use Rattle.zn_base.specs.Causes.{HasCause};
 ghost use Rattle.zn_base.specs.States.{WasRead, WasWritten};
 
-use crate::{ReadFault, Sink, Source, WriteFault};
 use std::alloc::{AllocError, Global};
 use std::io::{ErrorKind, Read, Write};
 use std::marker::Model;
+use zn_base::{ReadFault, Sink, Source, WriteFault};
 
 /// A source over a reader. A read that was interrupted is made again.
 #[derive(Drop)]
@@ -20,7 +20,7 @@ pub struct ReaderSource<R> {
 }
 
 impl<R> Model for ReaderSource<R> {
-    ghost use Rattle.zn_base.specs.Adapters.{ReaderState};
+    ghost use Rattle.zn_host.specs.Adapters.{ReaderState};
 
     ghost Value = { ReaderState R };
 
@@ -90,7 +90,7 @@ pub struct WriterSink<W> {
 
 impl<W> Model for WriterSink<W> {
     ghost use Rattle.std.specs.Prelude.{◌<◌, vec_len, take};
-    ghost use Rattle.zn_base.specs.Adapters.{WriterState};
+    ghost use Rattle.zn_host.specs.Adapters.{WriterState};
 
     ghost Value = { WriterState W };
 

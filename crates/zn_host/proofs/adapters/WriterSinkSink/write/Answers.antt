@@ -1,6 +1,6 @@
 use Rattle.std.proofs.lemmas.Bool.{both_ways}
-use Rattle.zn_base.proofs.AdapterLaws.{takes_gathered, takes_sent}
-use Rattle.zn_base.proofs.adapters.WriterSinkSink.write.Goals as goal
+use Rattle.zn_host.proofs.AdapterLaws.{takes_gathered, takes_sent}
+use Rattle.zn_host.proofs.adapters.WriterSinkSink.write.Goals as goal
 
 pub returns-then-not-ends_line-clause-takes : goal.returns-then-not-ends_line-clause-takes
 returns-then-not-ends_line-clause-takes g c =

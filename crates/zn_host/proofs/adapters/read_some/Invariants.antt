@@ -1,5 +1,5 @@
 use Rattle.std.specs.Io.KnownBytes.{Keeps}
-use Rattle.zn_base.proofs.adapters.read_some.Given as goal
+use Rattle.zn_host.proofs.adapters.read_some.Given as goal
 
 -- a read that was interrupted gave nothing
 abbrev pub invariant-loop : goal.invariant-loop

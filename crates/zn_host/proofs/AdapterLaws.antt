@@ -2,7 +2,7 @@
 use Rattle.std.proofs.Common.{ℕ, List, [], ◌++◌, take, Option, Some, None, refl, sym, ◌∙◌, inl, inr, append_assoc, Ok}
 use Rattle.std.proofs.lemmas.List.{append-nil}
 use Rattle.std.specs.Io.KnownBytes.{Appends}
-use Rattle.zn_base.specs.Adapters.{EndsLine, Takes}
+use Rattle.zn_host.specs.Adapters.{EndsLine, Takes}
 use Rattle.zn_base.specs.Told.{told_and}
 
 -- gathered bytes are behind those of the writer
