@@ -53,7 +53,7 @@ room_on m f lies known =
 -- ---- checks
 
 -- what a call through a live handle is checked for
-checks_are : (m : Mounted) (h : Handle) (live : Live) (check : Live → Option Refusal) → m.world.powered ≡ true → live_at m.volume.handles h ≡ Some live
+pub checks_are : (m : Mounted) (h : Handle) (live : Live) (check : Live → Option Refusal) → m.world.powered ≡ true → live_at m.volume.handles h ≡ Some live
     → power_first m (live_first (live_at m.volume.handles h) check) ≡ check live
 checks_are m h live check powered has =
     ap (λ (b : Bool). if b then live_first (live_at m.volume.handles h) check else Some PowerLost) powered ∙ ap (λ (found : Option Live). live_first found check) has
@@ -189,7 +189,7 @@ close_answers m lies h live refusal has u told =
 
 -- ---- limits
 
-limit_stays : (error : DevError) → is_limit error ≡ true → is_passed_on error ≡ false
+pub limit_stays : (error : DevError) → is_limit error ≡ true → is_passed_on error ≡ false
 limit_stays TooManyActive limit = refl
 limit_stays TooManyOpen limit = refl
 limit_stays _ limit = absurd (false≢true limit)

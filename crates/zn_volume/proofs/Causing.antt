@@ -155,7 +155,7 @@ not_lost : (error : DevError) → is_passed_on error ≡ false → error ≡ Pow
 not_lost error here is = false≢true (sym here ∙ ap is_passed_on is)
 
 -- commands that failed, and what followed them
-then_caused : {X : Type 0} (orders : List Order) (error : DevError) (result : Result X Refusal) (old mid new : DeviceState) → is_passed_on error ≡ false
+pub then_caused : {X : Type 0} (orders : List Order) (error : DevError) (result : Result X Refusal) (old mid new : DeviceState) → is_passed_on error ≡ false
     → Ordered orders (Err error) old mid → CallCause result mid new → CallCause result old new
 then_caused orders error result old mid new here h k =
     let answered = answered_here error here in
@@ -189,22 +189,32 @@ failed_caused {X = X} orders error refusal old mid new recovery h = elim (is_pas
   | false ↦ λ here. then_caused orders error (Err refusal) old mid new here h (same_cause refl (recovery.caused here))
 ] refl
 
--- the report that follows a failure
-reported_caused : (after_read : Bool) (policy : Policy) (f : ℕ) (result : Result Bool DevError) (refusal : Refusal) (old new : DeviceState) (before after : Inodes)
-    → Recovers after_read policy f result old new before after → is_spoiling refusal ≡ false → CallCause {X = Unit {0}} (Err (told_by result refusal)) old new
-reported_caused after_read policy f (Ok changed) refusal old new before after step told =
+-- the report that follows a failure, where it is answered
+pub report_answered : {X : Type 0} (after_read : Bool) (policy : Policy) (f : ℕ) (changed : Bool) (result : Result X Refusal) (old new : DeviceState) (before after : Inodes)
+    → Recovers after_read policy f (Ok changed) old new before after → spoils result ≡ false → CallCause result old new
+report_answered after_read policy f changed result old new before after step told =
     let answered : is_answered step.reported.reply ≡ true = sym step.reported.alike in
-    caused_call step.reported.reply (Err refusal) old new step.reported.caused step.geometry (λ _. waits) (told ∙ sym (ap not answered))
-    (λ is. absurd (unspoiling (Err refusal) Broken told refl is)) (λ is. absurd (unspoiling (Err refusal) Memory told refl is))
+    caused_call step.reported.reply result old new step.reported.caused step.geometry (λ _. waits) (told ∙ sym (ap not answered))
+    (λ is. absurd (unspoiling result Broken told refl is)) (λ is. absurd (unspoiling result Memory told refl is))
   where
     waits : AreLeft new.world.pending old.world.pending
     waits = subst (λ (w : World). AreLeft w.pending old.world.pending) (sym (step.world refl)) (issue_leaves old.world (report_of (file_at before f)))
-reported_caused after_read policy f (Err error) refusal old new before after step told =
+
+-- and where it fails in a way that is passed on
+pub report_lost : {X : Type 0} (after_read : Bool) (policy : Policy) (f : ℕ) (error : DevError) (old new : DeviceState) (before after : Inodes)
+    → Recovers after_read policy f (Err error) old new before after → CallCause {X = X} (Err (refusal_of error)) old new
+report_lost after_read policy f error old new before after step =
     caused_call step.reported.reply (Err (refusal_of error)) old new step.reported.caused step.geometry
     (λ answered. subst (λ (w : World). AreLeft w.pending old.world.pending) (sym (step.world (step.reported.alike ∙ answered))) (issue_leaves old.world (report_of (file_at before f))))
     (spoils_alike error ∙ ap not step.reported.alike)
     (λ is. step.reported.told dev_broken (ap (λ (e : DevError). let r : Reply = Err e in r) (from_broken error (err_same _ _ is))))
     (λ is. step.reported.told dev_memory (ap (λ (e : DevError). let r : Reply = Err e in r) (from_memory error (err_same _ _ is))))
+
+-- either
+reported_caused : (after_read : Bool) (policy : Policy) (f : ℕ) (result : Result Bool DevError) (refusal : Refusal) (old new : DeviceState) (before after : Inodes)
+    → Recovers after_read policy f result old new before after → is_spoiling refusal ≡ false → CallCause {X = Unit {0}} (Err (told_by result refusal)) old new
+reported_caused after_read policy f (Ok changed) refusal old new before after step told = report_answered after_read policy f changed (Err refusal) old new before after step told
+reported_caused after_read policy f (Err error) refusal old new before after step told = report_lost after_read policy f error old new before after step
 
 -- what is passed on is no `io-error`
 not_io : (error : DevError) → is_passed_on error ≡ true → refusal_of error ≡ IoError → ⊥

@@ -1,9 +1,9 @@
 -- The closes of a mount.
-use Rattle.std.proofs.Common.{◌≡◌, ℕ, zero, suc, ◌+◌, ◌-◌, ◌<◌, ◌≤◌, Bool, true, false, cond, List, [], ◌∷◌, ◌++◌, length, map, filter, get_or, Ok, Err, refl, sym, ap, ◌∙◌, subst, arith}
+use Rattle.std.proofs.Common.{◌≡◌, ℕ, zero, suc, ◌+◌, ◌-◌, ◌<◌, ◌≤◌, Bool, true, false, cond, List, [], ◌∷◌, ◌++◌, length, map, filter, Ok, Err, refl, sym, ap, ◌∙◌, subst, arith}
 use Rattle.std.specs.Prelude.{◌&&◌, if◌then◌else◌, slice_index_or}
 use Rattle.std.specs.List.{flat_map, range_with_len}
 use Rattle.std.proofs.lemmas.Bool.{and_parts}
-use Rattle.std.proofs.lemmas.List.{append-nil, flat_map_more}
+use Rattle.std.proofs.lemmas.List.{append-nil}
 use Rattle.std.proofs.lemmas.List.Concat.{flat_map-append}
 use Rattle.std.proofs.lemmas.List.FromFn.{length-map-range_with_len, get_or-map-range_with_len}
 use Rattle.zn_truth.specs.declared.DevError.{DevError}
@@ -11,9 +11,8 @@ use Rattle.zn_truth.specs.declared.Kind.{Kind}
 use Rattle.zn_truth.specs.declared.Kind.TheVariants.{Conventional, Sequential}
 use Rattle.zn_truth.specs.declared.ZoneInfo.{ZoneInfo}
 use Rattle.zn_truth.specs.declared.ZoneOp.TheVariants.{Close}
-use Rattle.zn_truth.specs.Truth.{Truth, Geometry, geometry, zone_at, info_at, is_good, is_sequential, kind_at, IsSound}
+use Rattle.zn_truth.specs.Truth.{Truth, Geometry, geometry, zone_at, info_at, is_good, is_sequential, IsSound}
 use Rattle.zn_truth.specs.Orders.{Order, Manage, Reply}
-use Rattle.zn_truth.specs.Obeying.{IsZoneToManage}
 use Rattle.zn_truth.proofs.Issuing.{kind-in_geometry, zones-in_geometry}
 use Rattle.zn_device.specs.States.{DeviceState, Commanded, Ordered}
 use Rattle.zn_device.proofs.Ordered.{ordered_none, ordered_one, ordered_append, ordered_failure}

@@ -5,7 +5,7 @@ use Rattle.std.specs.List.{range_with_len}
 use Rattle.std.proofs.lemmas.List.Sums.{sum_by-cons}
 use Rattle.zn_truth.specs.World.{World}
 use Rattle.zn_model.specs.ZoneFiles.{files_of}
-use Rattle.zn_model.specs.Volume.{Inodes, file_at, writers_of}
+use Rattle.zn_model.specs.Volume.{Inodes, Request, file_at, writers_of}
 use Rattle.zn_handle.specs.HandleState as handles
 use Rattle.zn_volume.specs.VolumeState.{Agrees}
 
@@ -41,9 +41,9 @@ count_split p a (suc m) n =
     ap (λ (k : ℕ). count_by p (range_with_len a k)) e ∙ (omega (arith, rest, x, y, z))
 
 -- what the handles count is what the table counts
-pub wro_alike : (w : World) (inodes : Inodes) (seen : handles.HandleState) (infos scratch : ℕ) → Agrees w inodes seen infos scratch
+pub wro_alike : (w : World) (inodes : Inodes) (seen : handles.HandleState) (queued : List Request) (infos scratch : ℕ) → Agrees w inodes seen queued infos scratch
     → handles.wro_of seen ≡ count_by (λ f. (file_at inodes f).seq && nat_lt 0 (writers_of seen.handles f)) (range_with_len 0 (length (files_of inodes.layout)))
-wro_alike w inodes seen infos scratch agrees =
+wro_alike w inodes seen queued infos scratch agrees =
     let p : ℕ → Bool = λ f. (file_at inodes f).seq && nat_lt 0 (writers_of seen.handles f) in
     let q : ℕ → Bool = λ f. nat_lt 0 (writers_of seen.handles f) in
     let n = length (files_of inodes.layout) in

@@ -1,9 +1,13 @@
 -- Handles that are open on the same file in the same mode are answered alike.
-use Rattle.std.proofs.Common.{◌≡◌, ℕ, List, Option, Some, refl, sym, ap, ◌∙◌}
+use Rattle.std.proofs.Common.{◌≡◌, ℕ, Bool, true, false, List, length, Option, Some, None, Result, refl, sym, ap, ◌∙◌}
+use Rattle.std.specs.Prelude.{if◌then◌else◌}
 use Rattle.zn_model.specs.declared.handles.Handle.{Handle}
 use Rattle.zn_model.specs.declared.handles.Mode.{Mode}
 use Rattle.zn_model.specs.Volume.{Mounted, Live, live_at}
-use Rattle.zn_model.specs.CallAnswers.{with_power}
+use Rattle.zn_model.specs.declared.answers.Refusal.{Refusal}
+use Rattle.zn_model.specs.declared.answers.Refusal.TheVariants.{PowerLost}
+use Rattle.zn_model.specs.CallAnswers.{Answer, with_power, refused, unless, as_refused}
+use Rattle.zn_model.specs.Requests.{submit_call, submit_by, submit_now, submitting_refusal}
 use Rattle.zn_model.specs.Reading.{read_call, read_by, reading_refusal, size_call, size_by}
 use Rattle.zn_model.specs.Writing.{write_call, write_by, write_at_once}
 use Rattle.zn_model.specs.Truncating.{truncate_call, truncate_by, truncate_at_once, sync_call, sync_by, syncing_refusal}
@@ -42,6 +46,27 @@ sync_alike : (m : Mounted) (a b : Handle) → AreAlike m a b → sync_call m a �
 unfolding sync_call syncing_refusal
 sync_alike m a b h = through (λ found. with_power m (sync_by found m)) m a b h (λ handle other file mode. refl)
 
+-- answers that differ in what they leave alone
+same_reply : {X : Type 0} (check : Option (Result X Refusal)) (m : Mounted) (a b : Answer X) → a.reply ≡ b.reply → (unless check m a).reply ≡ (unless check m b).reply
+same_reply (Some reply) m a b same = refl
+same_reply None m a b same = same
+
+same_power : {X : Type 0} (m : Mounted) (a b : Answer X) → a.reply ≡ b.reply → (with_power m a).reply ≡ (with_power m b).reply
+same_power {X = X} m a b same = by_power m.world.powered
+  where
+    by_power : (on : Bool) → (if on then a else refused PowerLost m).reply ≡ (if on then b else refused PowerLost m).reply
+    by_power true = same
+    by_power false = refl
+
+submit_alike : (m : Mounted) (a b : Handle) (offset : ℕ) (bytes : List ℕ) → AreAlike m a b → (submit_call m a offset bytes).reply ≡ (submit_call m b offset bytes).reply
+unfolding submit_call submitting_refusal
+submit_alike m a b offset bytes h =
+    same_power m (submit_by (live_at m.volume.handles a) m offset bytes) (submit_by (live_at m.volume.handles b) m offset bytes)
+    (through (λ found. (submit_by found m offset bytes).reply) m a b h (λ handle other file mode.
+    let one : Live = record { handle = handle; file = file; mode = mode } in
+    let two : Live = record { handle = other; file = file; mode = mode } in
+    same_reply (as_refused (submitting_refusal m.volume one offset (length bytes))) m (submit_now m one offset bytes) (submit_now m two offset bytes) refl))
+
 pub handles_alike : HandlesAlike
 handles_alike = record {
   size = size_alike;
@@ -49,4 +74,5 @@ handles_alike = record {
   write = write_alike;
   truncate = truncate_alike;
   sync = sync_alike;
+  submit = submit_alike;
 }

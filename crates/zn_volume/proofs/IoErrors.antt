@@ -32,7 +32,7 @@ use Rattle.zn_model.specs.declared.files.Shown.{Shown}
 use Rattle.zn_model.specs.OpenClose.{is_limit}
 use Rattle.zn_model.specs.Pieces.{piece, read_in, write_in, reads, writes, zone_from, zone_to, Touched}
 use Rattle.zn_model.specs.Recovery.{is_passed_on, refusal_of}
-use Rattle.zn_model.specs.Volume.{Inodes, Live, file_at, shown_at}
+use Rattle.zn_model.specs.Volume.{Inodes, Live, Request, file_at, shown_at}
 use Rattle.zn_model.specs.Reading.{read_end, read_area, read_orders}
 use Rattle.zn_model.specs.Truncating.{truncate_orders}
 use Rattle.zn_model.specs.Writing.{area_of}
@@ -428,6 +428,6 @@ none_io None result inodes old new other = tt
 none_io (Some live) result inodes old new other = other_io result inodes live.file old new other
 
 -- a file shows no more than it has room for on its device
-pub room_in : (w : World) (inodes : Inodes) (seen : handles.HandleState) (infos scratch : ℕ) (f : ℕ) → Agrees w inodes seen infos scratch → f < length (files_of inodes.layout) → (shown_at inodes f).size ≤ capacity_of (shape_of w) (file_at inodes f)
-room_in w inodes seen infos scratch f agrees known =
+pub room_in : (w : World) (inodes : Inodes) (seen : handles.HandleState) (queued : List Request) (infos scratch : ℕ) (f : ℕ) → Agrees w inodes seen queued infos scratch → f < length (files_of inodes.layout) → (shown_at inodes f).size ≤ capacity_of (shape_of w) (file_at inodes f)
+room_in w inodes seen queued infos scratch f agrees known =
     subst (λ (shape : Shape). (shown_at inodes f).size ≤ capacity_of shape (file_at inodes f)) agrees.shape (agrees.sizes.size f known)

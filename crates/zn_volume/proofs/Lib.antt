@@ -1,8 +1,10 @@
 pub mod Waiting
 pub mod Causing
+pub mod InFlight
 pub mod Keeping
 pub mod Counting
 pub mod Closings
+pub mod Carrying
 pub mod Naming
 pub mod Layouts
 pub mod Refusing
@@ -22,6 +24,7 @@ pub mod Unstruck
 pub mod Untroubled
 pub mod Passing
 pub mod Answering
+pub mod Fulfilling
 pub mod Powering
 pub mod Reports
 pub mod TellingPower

@@ -1,13 +1,13 @@
 -- A read or a report that is done leaves the device as it is.
-use Rattle.std.proofs.Common.{◌≡◌, Bool, true, false, List, [], ◌∷◌, Option, Some, None, Ok, Err, refl, sym, ap, ◌∙◌, subst, IsTrue}
+use Rattle.std.proofs.Common.{◌≡◌, Bool, true, false, List, [], ◌∷◌, Option, Some, None, Ok, Err, refl, sym, ap, ◌∙◌, IsTrue}
 use Rattle.std.specs.Prelude.{if◌then◌else◌}
 use Rattle.zn_truth.specs.declared.DevError.{DevError}
-use Rattle.zn_truth.specs.declared.DevError.TheVariants.{Fault, PowerLost}
+use Rattle.zn_truth.specs.declared.DevError.TheVariants.{PowerLost}
 use Rattle.zn_truth.specs.declared.FaultSpec.{FaultSpec}
 use Rattle.zn_truth.specs.declared.Armed.{Armed}
 use Rattle.zn_truth.specs.Truth.{Truth}
-use Rattle.zn_truth.specs.Orders.{Order, ReadAt, WriteAt, Manage, FlushAll, ReportFrom, Reply, Done, done, done_unless, refusal}
-use Rattle.zn_truth.specs.World.{World, Outcome, issue, issue_armed, unarmed, struck, outcome, met, meets, faulted, command_of, zones_of, powered_off}
+use Rattle.zn_truth.specs.Orders.{Order, ReadAt, WriteAt, Manage, FlushAll, ReportFrom, Reply, done, done_unless, refusal}
+use Rattle.zn_truth.specs.World.{World, Outcome, issue, issue_armed, unarmed, struck, met, meets, faulted, command_of, zones_of, powered_off}
 use Rattle.zn_truth.specs.OrderLists.{first_failure, issue_all}
 use Rattle.zn_truth.specs.OrderLaws.{is_look}
 use Rattle.zn_truth.proofs.OrderLists.{done_goes_on}

@@ -1,12 +1,12 @@
 -- What a mount answers, by its commands.
-use Rattle.std.proofs.Common.{◌≡◌, ℕ, Bool, true, false, List, [], ◌∷◌, ◌++◌, Result, Ok, Err, refl, sym, ap, ◌∙◌, subst}
+use Rattle.std.proofs.Common.{◌≡◌, ℕ, Bool, true, false, List, [], ◌∷◌, ◌++◌, Result, Ok, Err, refl, sym, ap, ◌∙◌}
 use Rattle.std.specs.Prelude.{if◌then◌else◌}
 use Rattle.zn_truth.specs.declared.DevError.{DevError}
 use Rattle.zn_truth.specs.Truth.{Truth}
-use Rattle.zn_truth.specs.Orders.{Order, Reply}
+use Rattle.zn_truth.specs.Orders.{Reply}
 use Rattle.zn_truth.specs.World.{World, Outcome, issue}
 use Rattle.zn_truth.specs.OrderLists.{first_failure, issue_all}
-use Rattle.zn_truth.specs.Obeying.{IsAnswered, is_answered}
+use Rattle.zn_truth.specs.Obeying.{IsAnswered}
 use Rattle.zn_device.specs.States.{DeviceState}
 use Rattle.zn_model.specs.declared.answers.MountError.{MountError}
 use Rattle.zn_model.specs.declared.answers.SuperError.{SuperError}
@@ -17,8 +17,8 @@ use Rattle.zn_model.specs.SuperBlock.{SuperBlock}
 use Rattle.zn_model.specs.Volume.{Volume}
 use Rattle.zn_model.specs.Given.{copies_in}
 use Rattle.zn_model.specs.Looks.{report_all}
-use Rattle.zn_model.specs.Mounting.{MountAnswer, mount_error_of, why_of, is_zone0_unfull, super_block_of, closes, fresh_volume, mount_failed, not_formatted, mount_closed, mount_decoded, mount_read, mount_reported, mount_call}
-use Rattle.zn_volume.specs.MountSteps.{as_found, found_in, read_copies, looks, closes_of, mount_orders, result_of, Finds}
+use Rattle.zn_model.specs.Mounting.{MountAnswer, is_zone0_unfull, super_block_of, closes, fresh_volume, mount_failed, not_formatted, mount_closed, mount_decoded, mount_read, mount_reported, mount_call}
+use Rattle.zn_volume.specs.MountSteps.{as_found, found_in, read_copies, closes_of, mount_orders, result_of, Finds}
 
 -- the answer of a mount whose commands ended so
 abbrev ended_by : Reply → World → Result SuperBlock Why → Truth → MountOpts → MountAnswer

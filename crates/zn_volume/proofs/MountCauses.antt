@@ -1,19 +1,18 @@
 -- The causes of what a mount answers.
-use Rattle.std.proofs.Common.{◌≡◌, ◌⊎◌, ℕ, ◌<◌, ◌≤◌, Bool, true, false, not, List, [], ◌∷◌, ◌++◌, length, All, Result, Ok, Err, refl, sym, ap, ◌∙◌, subst, inl, inr, arith}
-use Rattle.std.specs.Prelude.{◌↔◌, IsErrOf, if◌then◌else◌}
+use Rattle.std.proofs.Common.{◌≡◌, ◌⊎◌, ℕ, ◌<◌, Bool, true, false, List, [], ◌∷◌, ◌++◌, All, Result, Ok, Err, refl, sym, ap, ◌∙◌, subst, inl, inr, arith}
+use Rattle.std.specs.Prelude.{IsErrOf, if◌then◌else◌}
 use Rattle.std.proofs.lemmas.Bool.{false≢true, not-false, not-true, true_from_ne_false}
 use Rattle.std.proofs.lemmas.List.{append-nil}
 use Rattle.std.proofs.lemmas.List.Elements.{All-nil}
-use Rattle.zn_base.specs.Causes.{Rose}
 use Rattle.zn_truth.specs.declared.DevError.{DevError}
 use Rattle.zn_truth.specs.declared.DevError.TheVariants.{Fault, PowerLost as dev_lost, Broken as dev_broken, Memory as dev_memory}
 use Rattle.zn_truth.specs.Limits.{IsWithinLimits}
 use Rattle.zn_truth.specs.Truth.{Truth, geometry, IsSound}
 use Rattle.zn_truth.specs.Orders.{Order, Reply}
-use Rattle.zn_truth.specs.World.{World, Outcome, issue}
+use Rattle.zn_truth.specs.World.{World}
 use Rattle.zn_truth.specs.OrderLists.{issue_all}
 use Rattle.zn_truth.specs.Obeying.{is_answered}
-use Rattle.zn_device.specs.States.{DeviceState, Caused, Ordered}
+use Rattle.zn_device.specs.States.{DeviceState, Ordered}
 use Rattle.zn_device.proofs.Power.{loss_is_told_in_all}
 use Rattle.zn_model.specs.declared.answers.MountError.{MountError}
 use Rattle.zn_model.specs.declared.answers.MountError.TheVariants.{NotFormatted, IoError, PowerLost, Broken, Memory}
@@ -22,9 +21,8 @@ use Rattle.zn_model.specs.declared.files.MountOpts.{MountOpts}
 use Rattle.zn_model.specs.SuperBlock.{SuperBlock}
 use Rattle.zn_model.specs.Looks.{report_all}
 use Rattle.zn_model.specs.Mounting.{mount_error_of, is_zone0_unfull, mount_call}
-use Rattle.zn_volume.specs.Causes.{AreLeft}
-use Rattle.zn_volume.specs.MountSteps.{found_in, read_copies, looks, closes_of, mount_orders, result_of, Finds}
-use Rattle.zn_volume.specs.Mounts.{IsZone0Offline, MountCause}
+use Rattle.zn_volume.specs.MountSteps.{found_in, read_copies, looks, closes_of, mount_orders, Finds}
+use Rattle.zn_volume.specs.Mounts.{MountCause}
 use Rattle.zn_volume.proofs.Finding.{failure_cases, CommandFailed, Unformatted}
 use Rattle.zn_volume.proofs.Looks.{one_look_leaves, two_looks_leave}
 use Rattle.zn_volume.proofs.MountAnswers.{answer_is}

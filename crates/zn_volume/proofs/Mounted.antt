@@ -1,7 +1,7 @@
 -- What a mounted volume is, and what its parts keep to.
 use Rattle.std.proofs.Common.{◌≡◌, ℕ, ◌*◌, ◌<◌, ◌≤◌, Bool, true, false, List, length, Ok, refl, sym, ap, ◌∙◌, subst, arith}
 use Rattle.std.proofs.lemmas.Bool.{false≢true}
-use Rattle.std.proofs.lemmas.List.{get_or-map}
+use Rattle.std.proofs.lemmas.List.{get_or-map, length-map}
 use Rattle.zn_truth.specs.declared.Cond.{Cond}
 use Rattle.zn_truth.specs.declared.Cond.TheVariants.{Good, ReadOnly as cond_read_only, Offline as cond_offline}
 use Rattle.zn_truth.specs.declared.Kind.{Kind}
@@ -19,7 +19,7 @@ use Rattle.zn_model.specs.ZoneFiles.{Layout, layout_of, files_of}
 use Rattle.zn_model.specs.ShownStates.{infos_of, worst, holds, showing, mounted_by, mounted_shown}
 use Rattle.zn_model.specs.Looks.{all_infos, report_all}
 use Rattle.zn_model.specs.Mounting.{MountAnswer, fresh_handles, fresh_inodes, fresh_queue, fresh_volume}
-use Rattle.zn_model.specs.Volume.{Inodes, Handles, Volume, file_at, shown_at, no_file}
+use Rattle.zn_model.specs.Volume.{Inodes, Handles, Queue, Volume, file_at, shown_at, no_file}
 use Rattle.zn_inode.specs.Mounts.{AreInside, mounted_inodes}
 use Rattle.zn_inode.specs.Sizes.{IsWithinRoom}
 use Rattle.zn_inode.proofs.Mounts.{mounted_fresh}
@@ -28,7 +28,8 @@ use Rattle.zn_io.specs.Files.{IsFile}
 use Rattle.zn_io.proofs.Sizes.{holds_file}
 use Rattle.zn_volume.specs.MountSteps.{ArePrepared, found_in, mount_orders, Finds}
 use Rattle.zn_volume.specs.Mounts.{IsMounted}
-use Rattle.zn_volume.specs.VolumeState.{Agrees, IsHeldSequential, VolumeState}
+use Rattle.zn_volume.specs.InFlight.{AreInFlight}
+use Rattle.zn_volume.specs.VolumeState.{Agrees, IsHeldSequential}
 use Rattle.zn_volume.proofs.Finding.{found_cases}
 use Rattle.zn_volume.proofs.Layouts.{layout_file, layout_single, layout_cnv, layout_seq, layout_inside}
 use Rattle.zn_volume.proofs.MountAnswers.{answer_is}
@@ -89,11 +90,11 @@ fresh_held t layout = record {
       absurd (false≢true (sym (mounted_closed (worst (infos_of t (file_at (fresh_inodes t layout) f))) (4096 * holds (infos_of t (file_at (fresh_inodes t layout) f)))) ∙ sym (ap (λ (s : Shown). s.held_open) (fresh_shown t layout f below)) ∙ held));
 }
 
-pub fresh_agrees : (v w : World) (aggr : Bool) (inodes : Inodes) (seen : handles.HandleState) (infos scratch : ℕ) → IsSound v.truth → IsWithinLimits (geometry_of v) → geometry_of w ≡ geometry_of v
+pub fresh_agrees : (v w : World) (aggr : Bool) (inodes : Inodes) (seen : handles.HandleState) (queue : Queue) (infos scratch : ℕ) → IsSound v.truth → IsWithinLimits (geometry_of v) → geometry_of w ≡ geometry_of v
     → inodes ≡ fresh_inodes v.truth (layout_of (geometry v.truth).kinds aggr) → seen.cnv ≡ length inodes.layout.cnv → seen.files ≡ length (files_of inodes.layout)
-    → infos ≡ length (geometry_of v).kinds → scratch ≡ 4096 * 257 → Agrees w inodes seen infos scratch
+    → queue ≡ fresh_queue → infos ≡ length (geometry_of v).kinds → scratch ≡ 4096 * 257 → Agrees w inodes seen queue.queued infos scratch
 unfolding geometry_of
-fresh_agrees v w aggr inodes seen infos scratch sound limits same is cnv known places blocks =
+fresh_agrees v w aggr inodes seen queue infos scratch sound limits same is cnv known none places blocks =
     let fresh : Inodes = fresh_inodes v.truth (layout_of (geometry v.truth).kinds aggr) in
     record {
       files = subst (λ (i : Inodes). (f : ℕ) → f < length (files_of i.layout) → IsFile (geometry_of w) (file_at i f)) (sym is)
@@ -102,8 +103,10 @@ fresh_agrees v w aggr inodes seen infos scratch sound limits same is cnv known p
       sequential = subst (λ (i : Inodes). (f : ℕ) → length i.layout.cnv ≤ f → f < length (files_of i.layout) → (file_at i f).seq ≡ true) (sym is) (layout_seq (geometry v.truth).kinds aggr);
       single = subst (λ (i : Inodes). (f : ℕ) → f < length (files_of i.layout) → (file_at i f).seq ≡ true → (file_at i f).zones ≡ 1) (sym is) (layout_single (geometry v.truth).kinds aggr);
       shape = ap (λ (i : Inodes). i.shape) is ∙ ap (λ (g : Geometry). g.shape) (sym same);
+      shown = subst (λ (i : Inodes). length i.shown ≡ length (files_of i.layout)) (sym is) (length-map _ _);
       sizes = subst (λ (i : Inodes). IsWithinRoom i) (sym is) (fresh_sizes v aggr sound limits);
       held = subst (λ (i : Inodes). IsHeldSequential i) (sym is) (fresh_held v.truth (layout_of (geometry v.truth).kinds aggr));
+      flight = subst (λ (q : Queue). AreInFlight inodes q.queued) (sym none) (record { line = tt });
       cnv = cnv;
       known = known;
       places = places ∙ ap (λ (g : Geometry). length g.kinds) (sym same);
@@ -113,37 +116,30 @@ fresh_agrees v w aggr inodes seen infos scratch sound limits same is cnv known p
 -- ---- the volume
 
 -- a volume of these parts
-volume_of : SuperBlock → MountOpts → Inodes → Handles → Volume
-volume_of super_block opts inodes handles = record { super_block = super_block; policy = opts.policy; explicit_open = opts.explicit_open; inodes = inodes; handles = handles; queue = fresh_queue }
+volume_of : SuperBlock → MountOpts → Inodes → Handles → Queue → Volume
+volume_of super_block opts inodes handles queue = record { super_block = super_block; policy = opts.policy; explicit_open = opts.explicit_open; inodes = inodes; handles = handles; queue = queue }
 
-volume_is : (t : Truth) (super_block : SuperBlock) (opts : MountOpts) (inodes : Inodes) (handles : Handles) → inodes ≡ fresh_inodes t (layout_of (geometry t).kinds super_block.aggr_cnv) → handles ≡ fresh_handles
-    → fresh_volume t super_block opts ≡ volume_of super_block opts inodes handles
+volume_is : (t : Truth) (super_block : SuperBlock) (opts : MountOpts) (inodes : Inodes) (handles : Handles) (queue : Queue) → inodes ≡ fresh_inodes t (layout_of (geometry t).kinds super_block.aggr_cnv) → handles ≡ fresh_handles → queue ≡ fresh_queue
+    → fresh_volume t super_block opts ≡ volume_of super_block opts inodes handles queue
 unfolding fresh_volume volume_of
-volume_is t super_block opts inodes handles is fresh =
-    ap (λ (i : Inodes). volume_of super_block opts i fresh_handles) (sym is) ∙ ap (λ (h : Handles). volume_of super_block opts inodes h) (sym fresh)
+volume_is t super_block opts inodes handles queue is fresh none =
+    ap (λ (i : Inodes). volume_of super_block opts i fresh_handles fresh_queue) (sym is) ∙ ap (λ (h : Handles). volume_of super_block opts inodes h fresh_queue) (sym fresh) ∙ ap (λ (q : Queue). volume_of super_block opts inodes handles q) (sym none)
 
-pub mounted_is : (opts : MountOpts) (super_block : SuperBlock) (old new : DeviceState) (inodes : Inodes) (handles : Handles) → old.spoilt ≡ false → Finds mount_orders (Ok super_block) old new
-    → inodes ≡ fresh_inodes old.world.truth (layout_of (geometry old.world.truth).kinds super_block.aggr_cnv) → handles ≡ fresh_handles
-    → IsMounted opts old (record { device = new; volume = record { super_block = super_block; policy = opts.policy; explicit_open = opts.explicit_open; inodes = inodes; handles = handles; queue = fresh_queue } })
+pub mounted_is : (opts : MountOpts) (super_block : SuperBlock) (old new : DeviceState) (inodes : Inodes) (handles : Handles) (queue : Queue) → old.spoilt ≡ false → Finds mount_orders (Ok super_block) old new
+    → inodes ≡ fresh_inodes old.world.truth (layout_of (geometry old.world.truth).kinds super_block.aggr_cnv) → handles ≡ fresh_handles → queue ≡ fresh_queue
+    → IsMounted opts old (record { device = new; volume = record { super_block = super_block; policy = opts.policy; explicit_open = opts.explicit_open; inodes = inodes; handles = handles; queue = queue } })
 unfolding volume_of
-mounted_is opts super_block old new inodes handles unspoilt h is fresh =
+mounted_is opts super_block old new inodes handles queue unspoilt h is fresh none =
     let found = found_cases h.reply (found_in h.given old.world.truth) super_block h.is in
     let done = subst (λ r. Ordered (mount_orders h.given old.world.truth) r old new) found.done h.done in
     record {
       given = h.given;
       bytes = h.bytes;
       answer = answer_is (Ok super_block) old new opts h (ap is_answered found.done)
-          ∙ ap (λ (v : Volume). let a : MountAnswer = record { reply = Ok v; world = new.world } in a) (volume_is old.world.truth super_block opts inodes handles is fresh);
+          ∙ ap (λ (v : Volume). let a : MountAnswer = record { reply = Ok v; world = new.world } in a) (volume_is old.world.truth super_block opts inodes handles queue is fresh none);
       device = only_world (mount_orders h.given old.world.truth) old new unspoilt done;
-      fresh = sym (volume_is old.world.truth super_block opts inodes handles is fresh);
+      fresh = sym (volume_is old.world.truth super_block opts inodes handles queue is fresh none);
       formatted = found.is;
       powered = done_powered (report_all old.world.truth) _ old new done;
       geometry = done.obeys.geometry;
     }
-
--- ---- handles after a mount
-
--- no handle was opened since the mount
-pub none_opened : (opts : MountOpts) (old : DeviceState) (new : VolumeState) → IsMounted opts old new → new.volume.handles.opened ≡ 0
-unfolding fresh_volume
-none_opened opts old new h = ap (λ (v : Volume). v.handles.opened) h.fresh

@@ -15,9 +15,10 @@ use Rattle.zn_truth.specs.OrderLists.{first_failure, issue_all}
 use Rattle.zn_truth.specs.World.{World, Outcome, issue, issue_armed, unarmed, struck, met, unmet, meets, command_of, zones_of, powered_off}
 use Rattle.zn_truth.proofs.LossReplies.{is_loss, tells_loss, unarmed_loss}
 use Rattle.zn_model.specs.declared.answers.Refusal.{Refusal}
-use Rattle.zn_model.specs.declared.answers.Refusal.TheVariants.{NoSuchFile, NotAllowed, Denied, FileOffline, FileReadOnly, FsReadOnly, BadHandle, BadMode, TooManyHandles, TooManyWriters, Unaligned, TooBig, BadOffset, Busy, PowerLost}
+use Rattle.zn_model.specs.declared.answers.Refusal.TheVariants.{NoSuchFile, NotAllowed, FileOffline, BadHandle, BadMode, Unaligned, Busy, NothingQueued, NothingDone, PowerLost}
 use Rattle.zn_model.specs.declared.files.FileZones.{FileZones}
 use Rattle.zn_model.specs.declared.files.Shown.{Shown}
+use Rattle.zn_model.specs.declared.handles.Done.{Done}
 use Rattle.zn_model.specs.declared.handles.Handle.{Handle}
 use Rattle.zn_model.specs.declared.handles.Mode.{Mode}
 use Rattle.zn_model.specs.declared.handles.Who.{Who}
@@ -27,10 +28,11 @@ use Rattle.zn_model.specs.Looks.{stat_call, stat_by, entries_call, entries_by, a
 use Rattle.zn_model.specs.Mounting.{unmount_refusal}
 use Rattle.zn_model.specs.OpenClose.{opening_refusal, begins_writing, is_limit, opened, after_open, open_now, open_by, open_call, ended, unheld, after_close, close_now, close_by, close_call}
 use Rattle.zn_model.specs.Reading.{reading_refusal, read_end, read_orders, after_read, read_now, read_by, read_call, size_by, size_call}
-use Rattle.zn_model.specs.Recovery.{is_passed_on, refusal_of, found_by, told_after, recovered, failed_by, Failed, after_failure, report_of}
+use Rattle.zn_model.specs.Recovery.{is_passed_on, refusal_of, found_by, finding_of, told_after, recovered, failed_by, Failed, after_failure, report_of}
+use Rattle.zn_model.specs.Requests.{queue_refusal, empty_refusal, submitting_refusal, submit_now, submit_by, submit_call, after_complete, complete_recovered, complete_now, complete_by, complete_call, reap_by, reap_call}
 use Rattle.zn_model.specs.ShownStates.{infos_of}
 use Rattle.zn_model.specs.Truncating.{new_size_refusal, unless_same, truncate_at_once, truncate_orders, after_truncate, truncate_now, truncate_by, truncate_call, syncing_refusal, after_sync, sync_now, sync_by, sync_call}
-use Rattle.zn_model.specs.Volume.{Volume, Mounted, Live, file_at, shown_at, capacity_at, live_at, writers_of, is_queued, is_queued_through, issued_end}
+use Rattle.zn_model.specs.Volume.{Volume, Mounted, Live, Queue, Request, file_at, shown_at, capacity_at, live_at, writers_of, is_queued, is_queued_through, issued_end}
 use Rattle.zn_model.specs.Writing.{area_refusal, unless_empty, rights_then, write_at_once, write_orders, after_write, write_now, write_by, write_call}
 use Rattle.zn_model.specs.ZoneFiles.{file_named, listing_of}
 use Rattle.zn_volume.specs.PowerLaws.{TellsPower, LossIsToldByCalls}
@@ -392,6 +394,74 @@ sync_tells : (m : Mounted) (h : Handle) → Tells (sync_call m h)
 unfolding sync_call
 sync_tells m h = power_tells m (sync_by (live_at m.volume.handles h) m) (sync_by_tells (live_at m.volume.handles h) m)
 
+-- ---- requests in flight
+
+queue_tells : (queue : Queue) (len : ℕ) → check_tells (queue_refusal queue len) ≡ false
+queue_tells queue len = grind (arith)
+
+empty_tells : (len : ℕ) → check_tells (empty_refusal len) ≡ false
+empty_tells len = either_check (len == 0) (Some Unaligned) None refl refl
+
+submitting_tells : (v : Volume) (live : Live) (offset len : ℕ) → check_tells (submitting_refusal v live offset len) ≡ false
+unfolding submitting_refusal
+submitting_tells v live offset len =
+    let rights = rights_refusal v.inodes.read_only (shown_at v.inodes live.file) in
+    let area = area_refusal v.inodes.shape (file_at v.inodes live.file) (issued_end v live.file) offset len in
+    let room = queue_refusal v.queue len in
+    let empty = empty_refusal len in
+    either_check (not (writes live.mode)) (Some BadMode) (or_else rights (or_else empty (or_else area room))) refl
+    (or_tells rights (or_else empty (or_else area room)) (rights_tell v.inodes.read_only (shown_at v.inodes live.file))
+    (or_tells empty (or_else area room) (empty_tells len)
+    (or_tells area room (area_tells v.inodes.shape (file_at v.inodes live.file) (issued_end v live.file) offset len) (queue_tells v.queue len))))
+
+submit_by_tells : (found : Option Live) (m : Mounted) (offset : ℕ) (bytes : List ℕ) → m.world.powered ≡ true → Tells (submit_by found m offset bytes)
+submit_by_tells None m offset bytes on = refused_tells BadHandle m refl on
+submit_by_tells (Some live) m offset bytes on =
+    checked_tells (submitting_refusal m.volume live offset (length bytes)) m (submit_now m live offset bytes) (submitting_tells m.volume live offset (length bytes)) on (record { same = sym (ap not on) })
+
+submit_tells : (m : Mounted) (h : Handle) (offset : ℕ) (bytes : List ℕ) → Tells (submit_call m h offset bytes)
+unfolding submit_call
+submit_tells m h offset bytes = power_tells m (submit_by (live_at m.volume.handles h) m offset bytes) (submit_by_tells (live_at m.volume.handles h) m offset bytes)
+
+-- the report that follows a request's failure
+recovered_tells : (r : Reply) (m : Mounted) (oldest : Request) (waiting : List Request) (error : DevError) → (issue m.world (report_of (file_at m.volume.inodes oldest.file))).reply ≡ r
+    → Tells (complete_recovered (found_by r (infos_of m.world.truth (file_at m.volume.inodes oldest.file))) m oldest waiting error)
+unfolding recovered
+recovered_tells (Ok unit) m oldest waiting error is = record { same = sym (ap tells_loss is) ∙ order_tells m.world (report_of (file_at m.volume.inodes oldest.file)) }
+recovered_tells (Err failed) m oldest waiting error is = by_test (is_passed_on failed) refl
+  where
+    report : Order
+    report = report_of (file_at m.volume.inodes oldest.file)
+
+    by_test : (b : Bool) → is_passed_on failed ≡ b → Tells (complete_recovered (if b then Err failed else Ok (record { cond = Offline; held = 0 })) m oldest waiting error)
+    by_test true passed = record { same = refusal_tells failed ∙ sym (ap tells_loss is) ∙ order_tells m.world (report_of (file_at m.volume.inodes oldest.file)) }
+    by_test false here = record { same = sym (here_on failed here) ∙ sym (ap tells_loss is) ∙ order_tells m.world (report_of (file_at m.volume.inodes oldest.file)) }
+
+completed_tells : (r : Reply) (m : Mounted) (oldest : Request) (waiting : List Request) → tells_loss r ≡ not m.world.powered → Tells (after_complete r m oldest waiting)
+completed_tells (Ok unit) m oldest waiting tells = record { same = tells }
+completed_tells (Err error) m oldest waiting tells =
+    either_answer (is_passed_on error) (refused (refusal_of error) m) (complete_recovered (finding_of m oldest.file) m oldest waiting error) (record { same = refusal_tells error ∙ tells })
+    (recovered_tells (issue m.world (report_of (file_at m.volume.inodes oldest.file))).reply m oldest waiting error refl)
+
+complete_by_tells : (queued : List Request) (m : Mounted) → m.world.powered ≡ true → Tells (complete_by queued m)
+unfolding complete_now
+complete_by_tells [] m on = refused_tells NothingQueued m refl on
+complete_by_tells (oldest ∷ waiting) m on =
+    let orders = write_orders m.volume oldest.file oldest.offset oldest.bytes in
+    completed_tells (issue_all m.world orders).reply (record m { world = (issue_all m.world orders).world }) oldest waiting (orders_tell m.world orders on)
+
+complete_tells : (m : Mounted) → Tells (complete_call m)
+unfolding complete_call
+complete_tells m = power_tells m (complete_by m.volume.queue.queued m) (complete_by_tells m.volume.queue.queued m)
+
+reap_by_tells : (finished : List Done) (m : Mounted) → m.world.powered ≡ true → Tells (reap_by finished m)
+reap_by_tells [] m on = refused_tells NothingDone m refl on
+reap_by_tells (first ∷ rest) m on = record { same = sym (ap not on) }
+
+reap_tells : (m : Mounted) → Tells (reap_call m)
+unfolding reap_call
+reap_tells m = power_tells m (reap_by m.volume.queue.finished m) (reap_by_tells m.volume.queue.finished m)
+
 -- ---- looks
 
 stat_by_tells : (names : Option (List (List ℕ))) (file : Option ℕ) (m : Mounted) → m.world.powered ≡ true → Tells (stat_by names file m)
@@ -470,6 +540,9 @@ loss_is_told = record {
   writes = λ m h offset bytes. told (write_tells m h offset bytes);
   truncates = λ m h size. told (truncate_tells m h size);
   syncs = λ m h. told (sync_tells m h);
+  submits = λ m h offset bytes. told (submit_tells m h offset bytes);
+  completes = λ m. told (complete_tells m);
+  reaps = λ m. told (reap_tells m);
   stat = λ m path. told (stat_tells m path);
   entries = λ m path. told (entries_tells m path);
   attr = λ m. told (attr_tells m);

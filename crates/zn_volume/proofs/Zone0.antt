@@ -1,15 +1,15 @@
 -- Where a command of a mount fails otherwise than by a fault, the super block's zone is offline.
-use Rattle.std.proofs.Common.{◌≡◌, ◌⊎◌, ℕ, ◌+◌, ◌-◌, ◌<◌, ◌≤◌, Bool, true, false, List, [], ◌∷◌, ◌++◌, length, map, filter, get_or, All, Option, Some, None, Ok, Err, refl, sym, ap, ◌∙◌, subst, inl, inr, arith, IsTrue, length-append}
+use Rattle.std.proofs.Common.{◌≡◌, ◌⊎◌, ℕ, ◌+◌, ◌<◌, ◌≤◌, Bool, true, false, List, [], ◌∷◌, ◌++◌, length, filter, get_or, All, Option, Some, None, Ok, Err, refl, sym, ap, ◌∙◌, subst, inl, inr, arith, IsTrue, length-append}
 use Rattle.std.specs.Prelude.{◌&&◌, ◌==◌, not, nat_lt, if◌then◌else◌}
 use Rattle.std.specs.List.{range_with_len}
-use Rattle.std.proofs.lemmas.Bool.{le-ltb, ltb-false, false≢true, eqb-true, not-false, and_cases, and_parts}
+use Rattle.std.proofs.lemmas.Bool.{le-ltb, false≢true, eqb-true, not-false, and_parts}
 use Rattle.std.proofs.lemmas.List.{get_or-append-add, get_or-map, length-map}
 use Rattle.std.proofs.lemmas.List.Elements.{filter_passes}
 use Rattle.std.proofs.lemmas.List.FromFn.{length-map-range_with_len, get_or-map-range_with_len}
 use Rattle.zn_truth.specs.declared.Cond.{Cond}
 use Rattle.zn_truth.specs.declared.Cond.TheVariants.{Good, ReadOnly as read_only_zone, Offline as offline_zone}
 use Rattle.zn_truth.specs.declared.DevError.{DevError}
-use Rattle.zn_truth.specs.declared.DevError.TheVariants.{Fault, PowerLost, BeyondWp, ReadOnly, Offline}
+use Rattle.zn_truth.specs.declared.DevError.TheVariants.{Fault, PowerLost, BeyondWp}
 use Rattle.zn_truth.specs.declared.FaultSpec.{FaultSpec}
 use Rattle.zn_truth.specs.declared.Armed.{Armed}
 use Rattle.zn_truth.specs.declared.Kind.{Kind}
@@ -17,11 +17,10 @@ use Rattle.zn_truth.specs.declared.Kind.TheVariants.{Conventional, Sequential}
 use Rattle.zn_truth.specs.declared.Shape.{Shape}
 use Rattle.zn_truth.specs.declared.ZoneInfo.{ZoneInfo}
 use Rattle.zn_truth.specs.declared.ZoneOp.TheVariants.{Close}
-use Rattle.zn_truth.specs.FailureLaws.{FailsAt}
 use Rattle.zn_truth.specs.Limits.{IsWithinLimits}
-use Rattle.zn_truth.specs.Truth.{Zone, Truth, Geometry, geometry, zone_at, info_at, kind_at, room, is_good, is_offline, is_sequential, IsSound, IsSoundZone}
+use Rattle.zn_truth.specs.Truth.{Truth, Geometry, geometry, zone_at, info_at, kind_at, room, is_good, is_offline, is_sequential, IsSound, IsSoundZone}
 use Rattle.zn_truth.specs.Orders.{Order, ReadAt, WriteAt, Manage, FlushAll, ReportFrom, Reply, done, done_unless, refusal, reading, changing}
-use Rattle.zn_truth.specs.World.{World, Outcome, issue, issue_armed, unarmed, struck, met, meets, faulted, command_of, zones_of, powered_off}
+use Rattle.zn_truth.specs.World.{World, Outcome, issue, issue_armed, struck, met, meets, faulted, command_of, zones_of}
 use Rattle.zn_truth.specs.OrderLists.{first_failure, issue_all}
 use Rattle.zn_truth.proofs.Failures.{failure_has_order, issue_all_keeps_zones}
 use Rattle.zn_truth.specs.Obeying.{Fits}

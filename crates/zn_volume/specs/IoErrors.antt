@@ -1,5 +1,5 @@
 -- Where a call on a file answers `io-error`. (own)
-use Rattle.std.specs.Prelude.{◌≡◌, ◌≢◌, ◌⊎◌, ℕ, ◌+◌, ◌*◌, ◌<◌, true, false, Result, IsErrOf, IfSome}
+use Rattle.std.specs.Prelude.{◌≡◌, ◌≢◌, ◌⊎◌, ℕ, ◌+◌, ◌*◌, ◌<◌, true, false, List, ◌∷◌, ◌++◌, Result, IsErrOf, IfSome}
 use Rattle.zn_base.specs.Causes.{Rose}
 use Rattle.zn_truth.specs.declared.limits.TheConstants.{BLOCK_SIZE}
 use Rattle.zn_truth.specs.Truth.{Truth, zone_at, is_good}
@@ -8,8 +8,10 @@ use Rattle.zn_model.specs.declared.answers.Refusal.{Refusal}
 use Rattle.zn_model.specs.declared.answers.Refusal.TheVariants.{IoError}
 use Rattle.zn_model.specs.declared.files.FileZones.{FileZones}
 use Rattle.zn_model.specs.declared.files.Shown.{Shown}
+use Rattle.zn_model.specs.declared.answers.Outcome.TheVariants.{IoError as had_io_error}
+use Rattle.zn_model.specs.declared.handles.Done.{Done}
 use Rattle.zn_model.specs.declared.handles.Handle.{Handle}
-use Rattle.zn_model.specs.Volume.{Inodes, live_at, file_at, shown_at}
+use Rattle.zn_model.specs.Volume.{Inodes, Request, live_at, file_at, shown_at}
 use Rattle.zn_volume.specs.VolumeState.{VolumeState}
 
 -- a zone of the file isn't good
@@ -36,3 +38,10 @@ pub record IoErrorCause {X : Type 0} (result : Result X Refusal) (inodes : Inode
 abbrev pub IoErrorThrough : {X : Type 0} → Handle → Result X Refusal → VolumeState → VolumeState → Type 0
 IoErrorThrough h result old new =
     IfSome (live_at old.volume.handles h) (λ live. IoErrorCause result old.volume.inodes live.file old.device new.device)
+
+-- The outcome that a call put first behind those that were there is the oldest request's, and an input or output error
+-- only with such a cause in that request's file.
+pub record IoOutcomeCause (old new : VolumeState) : Type 0 where
+  pub cause : (oldest : Request) (waiting : List Request) (first : Done) (others : List Done) → old.volume.queue.queued ≡ oldest ∷ waiting
+      → new.volume.queue.finished ≡ old.volume.queue.finished ++ first ∷ others → first.outcome ≡ had_io_error
+      → HasIoCause (file_at old.volume.inodes oldest.file) (shown_at old.volume.inodes oldest.file) old.device new.device

@@ -1,3 +1,4 @@
+pub mod InFlight
 pub mod VolumeState
 pub mod Means
 pub mod Closing

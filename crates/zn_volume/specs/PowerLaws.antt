@@ -10,6 +10,7 @@ use Rattle.zn_model.specs.Reading.{read_call, size_call}
 use Rattle.zn_model.specs.Writing.{write_call}
 use Rattle.zn_model.specs.Truncating.{truncate_call, sync_call}
 use Rattle.zn_model.specs.OpenClose.{open_call, close_call}
+use Rattle.zn_model.specs.Requests.{submit_call, complete_call, reap_call}
 use Rattle.zn_model.specs.Looks.{stat_call, entries_call, attr_call, report_call}
 use Rattle.zn_model.specs.Mounting.{unmount_refusal}
 
@@ -28,6 +29,9 @@ pub record LossIsToldByCalls : Type 0 where
   pub writes : (m : Mounted) (h : Handle) (offset : ℕ) (bytes : List ℕ) → TellsPower (write_call m h offset bytes)
   pub truncates : (m : Mounted) (h : Handle) (size : ℕ) → TellsPower (truncate_call m h size)
   pub syncs : (m : Mounted) (h : Handle) → TellsPower (sync_call m h)
+  pub submits : (m : Mounted) (h : Handle) (offset : ℕ) (bytes : List ℕ) → TellsPower (submit_call m h offset bytes)
+  pub completes : (m : Mounted) → TellsPower (complete_call m)
+  pub reaps : (m : Mounted) → TellsPower (reap_call m)
   pub stat : (m : Mounted) (path : List ℕ) → TellsPower (stat_call m path)
   pub entries : (m : Mounted) (path : List ℕ) → TellsPower (entries_call m path)
   pub attr : (m : Mounted) → TellsPower (attr_call m)

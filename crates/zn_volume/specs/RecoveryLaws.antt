@@ -15,6 +15,7 @@ use Rattle.zn_model.specs.Volume.{Mounted, Live, live_at}
 use Rattle.zn_model.specs.Reading.{read_call, size_call}
 use Rattle.zn_model.specs.Writing.{write_call}
 use Rattle.zn_model.specs.Truncating.{truncate_call, sync_call}
+use Rattle.zn_model.specs.Requests.{submit_call}
 use Rattle.zn_model.specs.Recovery.{is_passed_on, refusal_of, recovered, after_failure}
 use Rattle.zn_model.specs.RecoveryLaws.{reported, truly_found, IsRecovered}
 
@@ -29,14 +30,15 @@ pub record AreAlike (m : Mounted) (a b : Handle) : Type 0 where
   pub file : first.file ≡ second.file
   pub mode : first.mode ≡ second.mode
 
--- Through such handles a call has the same reply, and leaves the same. So after a recovery each handle of a file sees
--- the same row of the table of policies.
+-- Through such handles a call has the same reply, and leaves the same, but that a request keeps the handle that it was
+-- submitted through. So after a recovery each handle of a file sees the same row of the table of policies.
 pub record HandlesAlike : Type 0 where
   pub size : (m : Mounted) (a b : Handle) → AreAlike m a b → size_call m a ≡ size_call m b
   pub read : (given : List ℕ) (m : Mounted) (a b : Handle) (offset len : ℕ) → AreAlike m a b → read_call given m a offset len ≡ read_call given m b offset len
   pub write : (m : Mounted) (a b : Handle) (offset : ℕ) (bytes : List ℕ) → AreAlike m a b → write_call m a offset bytes ≡ write_call m b offset bytes
   pub truncate : (m : Mounted) (a b : Handle) (size : ℕ) → AreAlike m a b → truncate_call m a size ≡ truncate_call m b size
   pub sync : (m : Mounted) (a b : Handle) → AreAlike m a b → sync_call m a ≡ sync_call m b
+  pub submit : (m : Mounted) (a b : Handle) (offset : ℕ) (bytes : List ℕ) → AreAlike m a b → (submit_call m a offset bytes).reply ≡ (submit_call m b offset bytes).reply
 
 -- ---- recovery in every world
 

@@ -1,8 +1,8 @@
 -- Which refusal a call's checks give: the first whose cause holds. Behind the checks only what a device's command
 -- answered is told. (own)
-use Rattle.std.specs.Prelude.{◌≡◌, ℕ, Bool, true, false, List, Option, Some, None, Result, Ok, Err, if◌then◌else◌}
+use Rattle.std.specs.Prelude.{◌≡◌, ℕ, Bool, true, false, List, [], ◌∷◌, Option, Some, None, Result, Ok, Err, if◌then◌else◌}
 use Rattle.zn_model.specs.declared.answers.Refusal.{Refusal}
-use Rattle.zn_model.specs.declared.answers.Refusal.TheVariants.{NoSuchFile, BadHandle, TooManyActive, TooManyOpen, IoError, PowerLost, Broken, Memory}
+use Rattle.zn_model.specs.declared.answers.Refusal.TheVariants.{NoSuchFile, BadHandle, NothingQueued, NothingDone, TooManyActive, TooManyOpen, IoError, PowerLost, Broken, Memory}
 use Rattle.zn_model.specs.declared.handles.Handle.{Handle}
 use Rattle.zn_model.specs.declared.handles.Mode.{Mode}
 use Rattle.zn_model.specs.declared.handles.Who.{Who}
@@ -11,6 +11,7 @@ use Rattle.zn_model.specs.Volume.{Mounted, Live, live_at, is_queued_through}
 use Rattle.zn_model.specs.CallAnswers.{busy_refusal}
 use Rattle.zn_model.specs.OpenClose.{opening_refusal}
 use Rattle.zn_model.specs.Reading.{reading_refusal}
+use Rattle.zn_model.specs.Requests.{submitting_refusal}
 use Rattle.zn_model.specs.Truncating.{truncate_at_once, syncing_refusal}
 use Rattle.zn_model.specs.Writing.{write_at_once}
 
@@ -84,6 +85,23 @@ truncate_refusal m h size = power_first m (live_first (live_at m.volume.handles 
 -- of a sync
 abbrev pub sync_refusal : Mounted → Handle → Option Refusal
 sync_refusal m h = power_first m (live_first (live_at m.volume.handles h) (λ live. syncing_refusal m.volume live))
+
+-- of a submit of so many bytes
+abbrev pub submit_refusal : Mounted → Handle → ℕ → ℕ → Option Refusal
+submit_refusal m h offset len = power_first m (live_first (live_at m.volume.handles h) (λ live. submitting_refusal m.volume live offset len))
+
+-- something must be there, or this is the refusal
+abbrev pub some_first : {X : Type 0} → List X → Refusal → Option Refusal
+some_first [] refusal = Some refusal
+some_first (first ∷ rest) refusal = None
+
+-- of a complete
+abbrev pub complete_refusal : Mounted → Option Refusal
+complete_refusal m = power_first m (some_first m.volume.queue.queued NothingQueued)
+
+-- of a reap
+abbrev pub reap_refusal : Mounted → Option Refusal
+reap_refusal m = power_first m (some_first m.volume.queue.finished NothingDone)
 
 -- a path must be that of a directory or a file
 abbrev pub named_first : Option (List (List ℕ)) → Option ℕ → Option Refusal

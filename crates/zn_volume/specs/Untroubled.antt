@@ -1,5 +1,5 @@
 -- Where nothing stands against a call, it is refused by its checks alone, or for a limit of the device. (own)
-use Rattle.std.specs.Prelude.{◌≡◌, ◌⊎◌, ℕ, ◌+◌, ◌*◌, ◌<◌, Bool, true, false, ◌&&◌, not, ◌==◌, List, [], ◌∷◌, length, All, if◌then◌else◌, Option, Some, None, Err}
+use Rattle.std.specs.Prelude.{◌≡◌, ◌⊎◌, ℕ, ◌+◌, ◌*◌, ◌<◌, Bool, true, false, ◌&&◌, not, ◌==◌, List, [], ◌∷◌, ◌++◌, length, All, if◌then◌else◌, Option, Some, None, Ok, Err}
 use Rattle.zn_truth.specs.declared.limits.TheConstants.{BLOCK_SIZE}
 use Rattle.zn_truth.specs.declared.ZoneOp.TheVariants.{Open, Close}
 use Rattle.zn_truth.specs.Truth.{Truth, zone_at, is_good, IsSound}
@@ -8,24 +8,30 @@ use Rattle.zn_truth.specs.World.{World, geometry_of, met, command_of, zones_of}
 use Rattle.zn_model.specs.declared.answers.Refusal.{Refusal}
 use Rattle.zn_model.specs.declared.answers.Refusal.TheVariants.{TooManyActive, TooManyOpen}
 use Rattle.zn_model.specs.declared.files.FileZones.{FileZones}
+use Rattle.zn_model.specs.declared.answers.Outcome.{Outcome}
+use Rattle.zn_model.specs.declared.answers.Outcome.TheVariants.{IoError as had_io_error}
+use Rattle.zn_model.specs.declared.handles.Done.{Done}
 use Rattle.zn_model.specs.declared.handles.Handle.{Handle}
 use Rattle.zn_model.specs.declared.handles.Mode.{Mode}
 use Rattle.zn_model.specs.declared.handles.Who.{Who}
 use Rattle.zn_model.specs.ZoneFiles.{files_of, file_named}
 use Rattle.zn_model.specs.Access.{writes}
-use Rattle.zn_model.specs.Volume.{Volume, Mounted, Live, file_at, shown_at, capacity_at, live_at, without_live, writers_of}
+use Rattle.zn_model.specs.Volume.{Volume, Mounted, Live, Request, file_at, shown_at, capacity_at, live_at, without_live, writers_of}
 use Rattle.zn_model.specs.Reading.{read_call, read_end, read_orders}
 use Rattle.zn_model.specs.Writing.{write_call, write_orders}
 use Rattle.zn_model.specs.Truncating.{truncate_call, truncate_orders, sync_call}
 use Rattle.zn_model.specs.OpenClose.{open_call, close_call, begins_writing}
+use Rattle.zn_model.specs.CallAnswers.{Answer}
+use Rattle.zn_model.specs.Requests.{submit_call, complete_call}
 use Rattle.zn_inode.specs.Sizes.{IsWithinRoom}
 use Rattle.zn_io.specs.Files.{IsFile, shape_of}
-use Rattle.zn_volume.specs.Refusals.{read_refusal, write_refusal, truncate_refusal, sync_refusal, open_refusal, close_refusal}
+use Rattle.zn_volume.specs.InFlight.{AreInFlight}
+use Rattle.zn_volume.specs.Refusals.{read_refusal, write_refusal, truncate_refusal, sync_refusal, submit_refusal, open_refusal, close_refusal}
 
 -- ---- what a volume keeps to
 
 -- The device is sound, the files are of its zones, one zone each for those of `seq`, and each shows something: no more
--- than it has room for.
+-- than it has room for. The requests that wait can be carried out one after another.
 pub record LiesOnDevice (m : Mounted) : Type 0 where
   pub sound : IsSound m.world.truth
   pub files : (f : ℕ) → f < length (files_of m.volume.inodes.layout) → IsFile (geometry_of m.world) (file_at m.volume.inodes f)
@@ -33,6 +39,7 @@ pub record LiesOnDevice (m : Mounted) : Type 0 where
   pub shape : m.volume.inodes.shape ≡ shape_of m.world
   pub shown : length m.volume.inodes.shown ≡ length (files_of m.volume.inodes.layout)
   pub sizes : IsWithinRoom m.volume.inodes
+  pub flight : AreInFlight m.volume.inodes m.volume.queue.queued
 
 -- ---- nothing stands against a call
 
@@ -113,6 +120,31 @@ TruncateAnswers m = (h : Handle) (size : ℕ) (live : Live) (refusal : Refusal) 
 abbrev pub SyncAnswers : Type 0
 SyncAnswers = (m : Mounted) (h : Handle) (refusal : Refusal) → IsUnstruck m.world (FlushAll ∷ [])
     → (sync_call m h).reply ≡ Err refusal → sync_refusal m h ≡ Some refusal
+
+-- on every mounted volume a submit is refused by its checks alone, whatever the device
+abbrev pub SubmitAnswers : Type 0
+SubmitAnswers = (m : Mounted) (h : Handle) (offset : ℕ) (bytes : List ℕ) (refusal : Refusal)
+    → (submit_call m h offset bytes).reply ≡ Err refusal → submit_refusal m h offset (length bytes) ≡ Some refusal
+
+-- an outcome that is done, or a limit of the device
+abbrev pub is_done_or_limit : Outcome → Bool
+is_done_or_limit had_io_error = false
+is_done_or_limit _ = true
+
+-- The oldest request was carried out: its ticket is answered, and its outcome, which is done or a limit, stands behind
+-- those that were there, before those of requests that it ends.
+pub record IsCarriedOut (m : Mounted) (oldest : Request) (answer : Answer ℕ) : Type 0 where
+  pub outcome : Outcome
+  pub others : List Done
+  pub reply : answer.reply ≡ Ok oldest.ticket
+  pub finished : answer.mounted.volume.queue.finished ≡ m.volume.queue.finished ++ (record { ticket = oldest.ticket; outcome = outcome }) ∷ others
+  pub done : is_done_or_limit outcome ≡ true
+
+-- a complete carries out the oldest request
+abbrev pub CompleteAnswers : Mounted → Type 0
+CompleteAnswers m = (oldest : Request) (waiting : List Request) → m.volume.queue.queued ≡ oldest ∷ waiting
+    → IsUntroubled m oldest.file (write_orders m.volume oldest.file oldest.offset oldest.bytes) → ShowsHeld m oldest.file
+    → IsCarriedOut m oldest (complete_call m)
 
 -- an open of a file is refused by its checks, or for a limit, whatever the file shows
 abbrev pub OpenAnswers : Mounted → Type 0

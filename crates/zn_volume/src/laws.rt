@@ -2,7 +2,7 @@
 // function that does nothing but look at a volume.
 ghost use Rattle.zn_volume.specs.RecoveryLaws.{HandlesAlike, RecoveryOfAnswered, ReportLeaves, FaultLeaves, RefusalLeaves};
 ghost use Rattle.zn_volume.specs.PowerLaws.{LossIsToldByCalls};
-ghost use Rattle.zn_volume.specs.Untroubled.{LiesOnDevice, ReadAnswers, WriteAnswers, TruncateAnswers, SyncAnswers, OpenAnswers, CloseAnswers};
+ghost use Rattle.zn_volume.specs.Untroubled.{LiesOnDevice, ReadAnswers, WriteAnswers, TruncateAnswers, SyncAnswers, SubmitAnswers, CompleteAnswers, OpenAnswers, CloseAnswers};
 ghost use Rattle.zn_volume.specs.VolumeState.{mounted_in};
 
 use crate::volume::Volume;
@@ -70,6 +70,18 @@ pub fn truncate_answers<D: Zoned + Drop>(volume: &Volume<D>)
 pub fn sync_answers()
     ensures { SyncAnswers }
 {}
+
+/// What refuses a submit.
+pub fn submit_answers()
+    ensures { SubmitAnswers }
+{}
+
+/// Where nothing stands against the completion of a request.
+pub fn complete_answers<D: Zoned + Drop>(volume: &Volume<D>)
+    ensures { CompleteAnswers (mounted_in volume.now) }
+{
+    lies_on_device(volume);
+}
 
 /// Where nothing stands against an open.
 pub fn open_answers<D: Zoned + Drop>(volume: &Volume<D>)

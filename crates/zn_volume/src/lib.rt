@@ -11,6 +11,7 @@ mod paths;
 mod prepared;
 mod reading;
 mod reporting;
+mod requests;
 #[cfg(test)]
 mod tests;
 mod truncating;

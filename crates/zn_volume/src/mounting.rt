@@ -5,7 +5,7 @@ ghost use Rattle.zn_truth.specs.declared.Shape.{Shape as TheShape};
 ghost use Rattle.zn_truth.specs.Truth.{Truth, geometry};
 ghost use Rattle.zn_model.specs.declared.files.MountOpts.{MountOpts as TheMountOpts};
 ghost use Rattle.zn_model.specs.Looks.{all_infos};
-ghost use Rattle.zn_model.specs.Mounting.{fresh_inodes, fresh_handles};
+ghost use Rattle.zn_model.specs.Mounting.{fresh_inodes, fresh_handles, fresh_queue};
 ghost use Rattle.zn_model.specs.ZoneFiles.{layout_of, files_of};
 ghost use Rattle.zn_volume.specs.Mounts.{IsMounted, MountCause};
 ghost use Rattle.zn_truth.specs.World.{geometry_of};
@@ -20,6 +20,7 @@ use zn_device::Zoned;
 use zn_handle::Handles;
 use zn_inode::Inodes;
 use zn_model::{MountError, MountOpts};
+use zn_queue::Queue;
 use zn_super::Super;
 use zn_truth::ZoneInfo;
 
@@ -45,6 +46,7 @@ struct Parts {
     super_block: Super,
     inodes: Inodes,
     handles: Handles,
+    queue: Queue,
     infos: Vec<ZoneInfo>,
     scratch: Vec<u8>,
 }
@@ -61,6 +63,7 @@ fn filled<D: Zoned>(dev: &D, room: Room, super_block: Super) -> Parts
     ensures fresh { result.handles.handles ≡ fresh_handles }
     ensures cnv { result.handles.cnv ≡ length result.inodes.layout.cnv }
     ensures known { result.handles.files ≡ length (files_of result.inodes.layout) }
+    ensures queue { result.queue ≡ room.queue }
     ensures infos { result.infos ≡ room.infos }
     ensures scratch { result.scratch ≡ room.scratch }
     ensures super_block { result.super_block ≡ super_block }
@@ -68,6 +71,7 @@ fn filled<D: Zoned>(dev: &D, room: Room, super_block: Super) -> Parts
     let Room {
         single,
         joined,
+        queue,
         infos,
         scratch,
     } = room;
@@ -80,6 +84,7 @@ fn filled<D: Zoned>(dev: &D, room: Room, super_block: Super) -> Parts
         super_block,
         inodes,
         handles,
+        queue,
         infos,
         scratch,
     }
@@ -92,8 +97,9 @@ fn take_parts<D: Zoned>(alloc: Global, dev: &mut D) -> Result<Parts, MountError>
     ensures inodes { let t = (D.state dev.old).world.truth in
         IfOk result (λ p. p.inodes ≡ fresh_inodes t (layout_of (geometry t).kinds p.super_block.aggr_cnv)) }
     ensures handles { IfOk result (λ p. p.handles.handles ≡ fresh_handles) }
-    ensures agrees { IfOk result (λ p. Agrees (D.state dev.new).world p.inodes p.handles (length p.infos.items)
-        (length p.scratch.items)) }
+    ensures queue { IfOk result (λ p. p.queue.queue ≡ fresh_queue) }
+    ensures agrees { IfOk result (λ p. Agrees (D.state dev.new).world p.inodes p.handles p.queue.queue.queued
+        (length p.infos.items) (length p.scratch.items)) }
     ensures failed { IfErr result (λ why. (opts : TheMountOpts) →
         MountCause opts why (D.state dev.old) (D.state dev.new)) }
 {
@@ -125,6 +131,7 @@ impl<D: Zoned + Drop> Volume<D> {
                 super_block: parts.super_block,
                 inodes: parts.inodes,
                 handles: parts.handles,
+                queue: parts.queue,
                 infos: parts.infos,
                 scratch: parts.scratch,
             }),

@@ -193,7 +193,6 @@ impl<D: Zoned + Drop> Volume<D> {
     }
 
     /// Notes whether a file is held open.
-    #[tactic(auto, using(crate::proofs::Keeping::held_set))]
     fn hold_open(&mut self, f: u32, held: bool)
         requires known { f < length (files_of self.old.volume.inodes.layout) }
         requires sequential { held ≡ true → (file_at self.old.volume.inodes f).seq ≡ true }
@@ -211,7 +210,8 @@ impl<D: Zoned + Drop> Volume<D> {
 
     /// Ends a handle.
     ///
-    /// Refused as `PowerLost` without power, and as `BadHandle` where it isn't live. The last close for writing of a
+    /// Refused as `PowerLost` without power, as `BadHandle` where it isn't live, and as `Busy` where a request waits that
+    /// was submitted through it, in this order. The last close for writing of a
     /// file that is held open closes its zone, and ends the handle whatever that answers: a failed command is told
     /// as `IoError`, `TooManyActive`, `TooManyOpen`, `PowerLost`, `Broken` or `Memory`, and recovery follows.
     #[tactic(auto, using(crate::proofs::Causing::still_caused), unfolding(zn_model::specs::OpenClose::close_call))]
@@ -227,9 +227,13 @@ impl<D: Zoned + Drop> Volume<D> {
         if !self.dev.powered() {
             return Err(Refusal::PowerLost);
         }
-        match self.handles.remove(h) {
+        match self.handles.get(h) {
             None => Err(Refusal::BadHandle),
-            Some(on) => self.close_zone(&on),
+            Some(_) if self.waits_through(h) => Err(Refusal::Busy),
+            Some(on) => {
+                let _ = self.handles.remove(h);
+                self.close_zone(&on)
+            }
         }
     }
 

@@ -2,6 +2,7 @@
 ghost use Rattle.std.specs.Prelude.{◌≡◌, ◌*◌, ◌≤◌, length, false, true, IfOk};
 ghost use Rattle.zn_truth.specs.declared.limits.TheConstants.{BLOCK_SIZE, MAX_ZONES};
 ghost use Rattle.zn_truth.specs.World.{geometry_of};
+ghost use Rattle.zn_model.specs.Mounting.{fresh_queue};
 ghost use Rattle.zn_volume.specs.MountSteps.{ArePrepared};
 
 use std::alloc::{AllocError, Global};
@@ -9,6 +10,7 @@ use zn_device::Zoned;
 use zn_handle::Handles;
 use zn_inode::Inodes;
 use zn_io::SCRATCH;
+use zn_queue::Queue;
 use zn_report::layout;
 use zn_truth::{Cond, Kind, Shape, ZoneInfo, ZoneNo};
 
@@ -19,12 +21,13 @@ pub(crate) struct Files {
     pub(crate) handles: Handles,
 }
 
-/// The files without aggregation and with it, since only the super block tells which of them there are, a place for
-/// each zone of the device, and room for the blocks of a read.
+/// The files without aggregation and with it, since only the super block tells which of them there are, an empty queue,
+/// a place for each zone of the device, and room for the blocks of a read.
 #[derive(Drop)]
 pub(crate) struct Room {
     pub(crate) single: Files,
     pub(crate) joined: Files,
+    pub(crate) queue: Queue,
     pub(crate) infos: Vec<ZoneInfo>,
     pub(crate) scratch: Vec<u8>,
 }
@@ -77,6 +80,7 @@ pub(crate) fn take_room<D: Zoned>(alloc: Global, dev: &D) -> Result<Room, AllocE
         IfOk result (λ room. ArePrepared g.kinds false g.shape room.single.inodes room.single.handles) }
     ensures joined { let g = geometry_of (D.state dev.now).world in
         IfOk result (λ room. ArePrepared g.kinds true g.shape room.joined.inodes room.joined.handles) }
+    ensures queue { IfOk result (λ room. room.queue.queue ≡ fresh_queue) }
     ensures infos { IfOk result (λ room. length room.infos.items ≡ length (geometry_of (D.state dev.now).world).kinds) }
     ensures scratch { IfOk result (λ room. length room.scratch.items ≡ BLOCK_SIZE * 257) }
 {
@@ -84,10 +88,12 @@ pub(crate) fn take_room<D: Zoned>(alloc: Global, dev: &D) -> Result<Room, AllocE
     let infos = places(alloc, dev)?;
     let single = files_of(alloc, &kinds, false, &infos, dev.shape())?;
     let joined = files_of(alloc, &kinds, true, &infos, dev.shape())?;
+    let queue = Queue::new(alloc)?;
     let scratch = vec![in alloc; 0; SCRATCH]?;
     Ok(Room {
         single,
         joined,
+        queue,
         infos,
         scratch,
     })

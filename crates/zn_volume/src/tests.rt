@@ -1,4 +1,5 @@
 ghost use Rattle.std.specs.Prelude.{◌≡◌, ◌≤◌, length, false, not, IfOk};
+ghost use Rattle.zn_model.specs.declared.limits.TheConstants.{MOST_BYTES};
 ghost use Rattle.zn_truth.specs.declared.limits.TheConstants.{MAX_ZONES};
 ghost use Rattle.zn_volume.specs.Means.{spoils};
 
@@ -8,7 +9,7 @@ use std::alloc::Global;
 use std::process::Abort;
 use std::test::Fail;
 use zn_device::{MemDevice, Zoned};
-use zn_model::{Mode, MountError, MountOpts, Place, Policy, Refusal, Who, Why};
+use zn_model::{Handle, Mode, MountError, MountOpts, Place, Policy, Refusal, Stat, Who, Why};
 use zn_super::{Label, Super};
 use zn_truth::{Cond, DevError, Kind, Shape, ZoneInfo, ZoneNo};
 
@@ -79,15 +80,115 @@ fn bytes_of(alloc: Global, byte: u8, len: usize) -> Result<Vec<u8>, Fail>
 }
 
 /// A device that is mounted.
-#[tactic(auto, using(crate::proofs::Mounted::none_opened))]
 fn mounted(rt: &impl Abort, alloc: Global, dev: MemDevice) -> Volume<MemDevice>
     ensures unspoilt { result.device.spoilt ≡ false }
-    ensures opened { result.volume.handles.opened ≡ 0 }
 {
     match Volume::mount(alloc, dev, OPTS) {
         Ok(volume) => volume,
         Err(_) => panic!(rt; "not mounted"),
     }
+}
+
+/// A device with these super blocks, mounted.
+fn formatted(rt: &impl Abort, alloc: Global, dev: MemDevice, aggr_cnv: bool) -> Volume<MemDevice>
+    ensures unspoilt { result.device.spoilt ≡ false }
+{
+    let mut dev = dev;
+    assert_eq!(rt; put(&mut dev, &copies(rt, aggr_cnv)), Ok(()));
+    mounted(rt, alloc, dev)
+}
+
+// The calls of a volume. Of each a caller learns only that more may follow it: what it answered is compared.
+
+fn open(
+    rt: &impl Abort,
+    volume: &mut Volume<MemDevice>,
+    path: &str,
+    mode: Mode,
+    who: Who,
+) -> Result<Handle, Refusal>
+    requires unspoilt { volume.old.device.spoilt ≡ false }
+    ensures unspoilt { volume.new.device.spoilt ≡ false }
+{
+    assert!(rt; volume.opened() < 1024);
+    let reply = volume.open(path, mode, who);
+    assert!(rt; is_told(&reply));
+    reply
+}
+
+fn close(rt: &impl Abort, volume: &mut Volume<MemDevice>, h: Handle) -> Result<(), Refusal>
+    requires unspoilt { volume.old.device.spoilt ≡ false }
+    ensures unspoilt { volume.new.device.spoilt ≡ false }
+{
+    let reply = volume.close(h);
+    assert!(rt; is_told(&reply));
+    reply
+}
+
+fn write(
+    rt: &impl Abort,
+    volume: &mut Volume<MemDevice>,
+    h: Handle,
+    offset: u64,
+    bytes: &[u8],
+) -> Result<(), Refusal>
+    requires unspoilt { volume.old.device.spoilt ≡ false }
+    requires len { length bytes.now ≤ MOST_BYTES }
+    ensures unspoilt { volume.new.device.spoilt ≡ false }
+{
+    let reply = volume.write(h, offset, bytes);
+    assert!(rt; is_told(&reply));
+    reply
+}
+
+/// How many of six bytes a read gives, and the six.
+fn read(
+    rt: &impl Abort,
+    volume: &mut Volume<MemDevice>,
+    h: Handle,
+    offset: u64,
+) -> (Result<u64, Refusal>, [u8; 6])
+    requires unspoilt { volume.old.device.spoilt ≡ false }
+    ensures unspoilt { volume.new.device.spoilt ≡ false }
+{
+    let mut out = [0; 6];
+    let reply = volume.read(h, offset, &mut out);
+    assert!(rt; is_told(&reply));
+    (reply, out)
+}
+
+fn size(volume: &Volume<MemDevice>, h: Handle) -> Result<u64, Refusal> {
+    volume.size(h)
+}
+
+fn stat(volume: &Volume<MemDevice>, path: &str) -> Result<Stat, Refusal> {
+    volume.stat(path)
+}
+
+/// How many files of `cnv` and of `seq` there are.
+fn files(volume: &Volume<MemDevice>) -> (u32, u32) {
+    volume.files()
+}
+
+/// A volume that isn't unmounted, since a handle is open.
+fn busy(rt: &impl Abort, volume: Volume<MemDevice>) -> Volume<MemDevice>
+    requires unspoilt { volume.device.spoilt ≡ false }
+    ensures unspoilt { result.device.spoilt ≡ false }
+{
+    match volume.unmount() {
+        Ok(_) => panic!(rt; "unmounted with an open handle"),
+        Err(fail) => {
+            assert_eq!(rt; fail.why, Refusal::Busy);
+            fail.vol
+        }
+    }
+}
+
+fn unmounted(rt: &impl Abort, volume: Volume<MemDevice>) -> MemDevice {
+    let Ok(dev) = volume.unmount() else {
+        panic!(rt; "not unmounted");
+    };
+    dev
 }
 
 #[test]
@@ -98,42 +199,27 @@ fn a_file_is_written_and_read(rt: HostRuntime) -> Result<(), Fail> {
         Kind::Sequential,
         Kind::Sequential,
     ];
-    let mut dev = device(rt.alloc(), &kinds)?;
-    assert_eq!(rt; put(&mut dev, &copies(&rt, false)), Ok(()));
-    let mut volume = mounted(&rt, rt.alloc(), dev);
-    assert_eq!(rt; volume.files(), (1, 2));
-    let opened = volume.open("seq/1", Mode::READ.union(Mode::WRITE), WHO);
-    assert!(rt; is_told(&opened));
-    let h = opened?;
+    let dev = device(rt.alloc(), &kinds)?;
+    let mut volume = formatted(&rt, rt.alloc(), dev, false);
+    assert_eq!(rt; files(&volume), (1, 2));
+    let h = open(&rt, &mut volume, "seq/1", Mode::READ_WRITE, WHO)?;
     let bytes = [7; 4096];
-    let reply = volume.write(h, 0, &bytes);
-    assert!(rt; is_told(&reply));
-    assert_eq!(rt; reply, Ok(()));
-    let reply = volume.write(h, 0, &bytes);
-    assert!(rt; is_told(&reply));
-    assert_eq!(rt; reply, Err(Refusal::BadOffset));
-    assert_eq!(rt; volume.size(h), Ok(4096));
-    let mut out = [0; 6];
-    let reply = volume.read(h, 4093, &mut out);
-    assert!(rt; is_told(&reply));
-    assert_eq!(rt; reply, Ok(3));
-    assert_eq!(rt; out, [7, 7, 7, 0, 0, 0]);
-    let mut volume = match volume.unmount() {
-        Ok(_) => panic!(rt; "unmounted with an open handle"),
-        Err(fail) => {
-            assert_eq!(rt; fail.why, Refusal::Busy);
-            fail.vol
-        }
-    };
-    let reply = volume.close(h);
-    assert!(rt; is_told(&reply));
-    assert_eq!(rt; reply, Ok(()));
-    assert_eq!(rt; volume.size(h), Err(Refusal::BadHandle));
-    let Ok(dev) = volume.unmount() else {
-        panic!(rt; "not unmounted");
-    };
+    assert_eq!(rt; write(&rt, &mut volume, h, 0, &bytes), Ok(()));
+    assert_eq!(rt;
+        write(&rt, &mut volume, h, 0, &bytes),
+        Err(Refusal::BadOffset)
+    );
+    assert_eq!(rt; size(&volume, h), Ok(4096));
+    assert_eq!(rt;
+        read(&rt, &mut volume, h, 4093),
+        (Ok(3), [7, 7, 7, 0, 0, 0])
+    );
+    let mut volume = busy(&rt, volume);
+    assert_eq!(rt; close(&rt, &mut volume, h), Ok(()));
+    assert_eq!(rt; size(&volume, h), Err(Refusal::BadHandle));
+    let dev = unmounted(&rt, volume);
     let volume = mounted(&rt, rt.alloc(), dev);
-    let stat = volume.stat("seq/1")?;
+    let stat = stat(&volume, "seq/1")?;
     assert_eq!(rt;
         (stat.size, stat.mode, stat.uid, stat.gid),
         (4096, 0o600, 7, 8)
@@ -151,38 +237,25 @@ fn conventional_zones_are_one_file(rt: HostRuntime) -> Result<(), Fail> {
         Kind::Sequential,
         Kind::Conventional,
     ];
-    let mut dev = device(rt.alloc(), &kinds)?;
-    assert_eq!(rt; put(&mut dev, &copies(&rt, false)), Ok(()));
-    let volume = mounted(&rt, rt.alloc(), dev);
-    assert_eq!(rt; volume.files(), (4, 1));
-    let mut dev = volume.into_device();
-    assert_eq!(rt; put(&mut dev, &copies(&rt, true)), Ok(()));
-    let mut volume = mounted(&rt, rt.alloc(), dev);
-    assert_eq!(rt; volume.files(), (2, 1));
-    let stat = volume.stat("cnv/0")?;
+    let dev = device(rt.alloc(), &kinds)?;
+    let volume = formatted(&rt, rt.alloc(), dev, false);
+    assert_eq!(rt; files(&volume), (4, 1));
+    let mut volume = formatted(&rt, rt.alloc(), volume.into_device(), true);
+    assert_eq!(rt; files(&volume), (2, 1));
+    let stat = stat(&volume, "cnv/0")?;
     assert_eq!(rt; (stat.zone, stat.zones, stat.size), (1, 3, 24576));
-    let opened = volume.open("cnv/0", Mode::READ.union(Mode::WRITE), WHO);
-    assert!(rt; is_told(&opened));
-    let h = opened?;
-    let bytes = bytes_of(rt.alloc(), 5, 16384)?;
-    let reply = volume.write(h, 4096, &bytes);
-    assert!(rt; is_told(&reply));
-    assert_eq!(rt; reply, Ok(()));
-    let bytes = bytes_of(rt.alloc(), 6, 4096)?;
-    let reply = volume.write(h, 8192, &bytes);
-    assert!(rt; is_told(&reply));
-    assert_eq!(rt; reply, Ok(()));
-    let mut out = [9; 6];
+    let h = open(&rt, &mut volume, "cnv/0", Mode::READ_WRITE, WHO)?;
+    let fives = bytes_of(rt.alloc(), 5, 16384)?;
+    assert_eq!(rt; write(&rt, &mut volume, h, 4096, &fives), Ok(()));
+    let sixes = bytes_of(rt.alloc(), 6, 4096)?;
+    assert_eq!(rt; write(&rt, &mut volume, h, 8192, &sixes), Ok(()));
     for (offset, want) in [
         (4093, [0, 0, 0, 5, 5, 5]),
         (8189, [5, 5, 5, 6, 6, 6]),
         (16381, [5, 5, 5, 5, 5, 5]),
         (20477, [5, 5, 5, 0, 0, 0]),
     ] {
-        let reply = volume.read(h, offset, &mut out);
-        assert!(rt; is_told(&reply));
-        assert_eq!(rt; reply, Ok(6));
-        assert_eq!(rt; out, want);
+        assert_eq!(rt; read(&rt, &mut volume, h, offset), (Ok(6), want));
     }
     Ok(())
 }
@@ -197,9 +270,8 @@ fn zones_are_placed_and_reported(rt: HostRuntime) -> Result<(), Fail> {
         Kind::Sequential,
         Kind::Conventional,
     ];
-    let mut dev = device(rt.alloc(), &kinds)?;
-    assert_eq!(rt; put(&mut dev, &copies(&rt, true)), Ok(()));
-    let mut volume = mounted(&rt, rt.alloc(), dev);
+    let dev = device(rt.alloc(), &kinds)?;
+    let mut volume = formatted(&rt, rt.alloc(), dev, true);
     let want = [
         Place::Super,
         Place::Cnv(0),
@@ -254,15 +326,13 @@ fn what_is_not_formatted(rt: HostRuntime) -> Result<(), Fail> {
 
 #[test]
 fn only_the_owner_opens(rt: HostRuntime) -> Result<(), Fail> {
-    let mut dev = device(rt.alloc(), &[Kind::Conventional, Kind::Sequential])?;
-    assert_eq!(rt; put(&mut dev, &copies(&rt, false)), Ok(()));
-    let mut volume = mounted(&rt, rt.alloc(), dev);
-    let reply = volume.open("seq/0", Mode::READ, Who { uid: 9, gid: 8 });
-    assert!(rt; is_told(&reply));
-    assert_eq!(rt; reply, Err(Refusal::Denied));
+    let dev = device(rt.alloc(), &[Kind::Conventional, Kind::Sequential])?;
+    let mut volume = formatted(&rt, rt.alloc(), dev, false);
+    let group = Who { uid: 9, gid: 8 };
+    let refused = open(&rt, &mut volume, "seq/0", Mode::READ, group);
+    assert_eq!(rt; refused, Err(Refusal::Denied));
     assert_eq!(rt; volume.opened(), 0);
-    let reply = volume.open("seq/0", Mode::READ, Who { uid: 7, gid: 9 });
-    assert!(rt; is_told(&reply));
-    assert!(rt; reply.is_ok());
+    let owner = Who { uid: 7, gid: 9 };
+    assert!(rt; open(&rt, &mut volume, "seq/0", Mode::READ, owner).is_ok());
     Ok(())
 }

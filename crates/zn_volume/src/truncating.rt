@@ -3,7 +3,7 @@ ghost use Rattle.std.specs.Prelude.{◌≡◌, ◌≤◌, ◌<◌, length, Some,
 ghost use Rattle.zn_base.specs.Causes.{Rose};
 ghost use Rattle.zn_model.specs.declared.answers.Refusal.TheVariants.{IoError};
 ghost use Rattle.zn_model.specs.ZoneFiles.{files_of};
-ghost use Rattle.zn_model.specs.Volume.{file_at, capacity_at, Live};
+ghost use Rattle.zn_model.specs.Volume.{file_at, capacity_at, is_queued, Live};
 ghost use Rattle.zn_model.specs.Truncating.{truncate_call, truncate_by, truncate_now, truncate_at_once, sync_call, sync_by, sync_now, syncing_refusal};
 ghost use Rattle.zn_volume.specs.Causes.{CallCause};
 ghost use Rattle.zn_volume.specs.VolumeState.{mounted_in, ForLive};
@@ -22,9 +22,9 @@ impl<D: Zoned + Drop> Volume<D> {
     ///
     /// Refused as `PowerLost` without power, `BadHandle` where the handle isn't live, `BadMode` where it isn't open
     /// for writing, `NotAllowed` on a conventional file, `FsReadOnly`, `FileOffline` or `FileReadOnly` by the rights,
-    /// and `NotAllowed` for any other size, in this order; the size that the file shows is done at once. A failed
-    /// command is told as `IoError`, `TooManyActive`, `TooManyOpen`, `PowerLost`, `Broken` or `Memory`, and is
-    /// followed by recovery.
+    /// `NotAllowed` for any other size, and `Busy` where requests of the file wait, in this order; the size that the file
+    /// shows is done at once. A failed command is told as `IoError`, `TooManyActive`, `TooManyOpen`, `PowerLost`,
+    /// `Broken` or `Memory`, and is followed by recovery.
     #[tactic(auto, using(crate::proofs::Causing::still_caused), unfolding(zn_model::specs::Truncating::truncate_call))]
     pub fn truncate(&mut self, h: Handle, size: u64) -> Result<(), Refusal>
         requires unspoilt { self.old.device.spoilt ≡ false }
@@ -53,6 +53,7 @@ impl<D: Zoned + Drop> Volume<D> {
         ensures told { IfSome result (λ reply. fails reply ≡ false) }
         ensures sequential { IfNone result ((file_at self.now.volume.inodes on.now.file).seq ≡ true) }
         ensures size { IfNone result (size ≤ capacity_at self.now.volume.inodes on.now.file) }
+        ensures idle { IfNone result (is_queued self.now.volume.queue on.now.file ≡ false) }
     {
         let shown = self.inodes.shown(on.file);
         if !on.mode.contains(Mode::WRITE) {
@@ -67,6 +68,8 @@ impl<D: Zoned + Drop> Volume<D> {
             Some(Err(Refusal::FileReadOnly))
         } else if size != 0 && size != self.capacity(on.file) {
             Some(Err(Refusal::NotAllowed))
+        } else if self.is_busy(on.file) {
+            Some(Err(Refusal::Busy))
         } else if size == shown.size {
             Some(Ok(()))
         } else {
@@ -101,6 +104,7 @@ impl<D: Zoned + Drop> Volume<D> {
         requires known { f < length (files_of self.old.volume.inodes.layout) }
         requires sequential { (file_at self.old.volume.inodes f).seq ≡ true }
         requires size { size ≤ capacity_at self.old.volume.inodes f }
+        requires idle { is_queued self.old.volume.queue f ≡ false }
         requires unspoilt { self.old.device.spoilt ≡ false }
         ensures reply { self.new.device.spoilt ≡ false →
             result ≡ (truncate_now (mounted_in self.old) f size).reply }
@@ -121,9 +125,9 @@ impl<D: Zoned + Drop> Volume<D> {
 
     /// Makes all that the device holds durable, the file of a handle among it.
     ///
-    /// Refused as `PowerLost` without power, `BadHandle` where the handle isn't live, and `FileOffline` where the file
-    /// may not be read, in this order. A failed command is told as `IoError`, `PowerLost`, `Broken` or `Memory`, and
-    /// this file alone is recovered.
+    /// Refused as `PowerLost` without power, `BadHandle` where the handle isn't live, `FileOffline` where the file may not
+    /// be read, and `Busy` where requests of the file wait, in this order. A failed command is told as
+    /// `IoError`, `PowerLost`, `Broken` or `Memory`, and this file alone is recovered.
     #[tactic(auto, using(crate::proofs::Causing::still_caused), unfolding(zn_model::specs::Truncating::sync_call))]
     pub fn sync(&mut self, h: Handle) -> Result<(), Refusal>
         requires unspoilt { self.old.device.spoilt ≡ false }
@@ -158,6 +162,9 @@ impl<D: Zoned + Drop> Volume<D> {
     {
         if !self.inodes.shown(on.file).may_read {
             return Err(Refusal::FileOffline);
+        }
+        if self.is_busy(on.file) {
+            return Err(Refusal::Busy);
         }
         self.sync_now(on.file)
     }

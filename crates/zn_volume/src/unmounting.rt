@@ -29,7 +29,8 @@ impl<D: Zoned + Drop> Volume<D> {
         }
     }
 
-    /// Unmounts a volume, and gives the device back as it is. No command is issued.
+    /// Unmounts a volume, and gives the device back as it is. No command is issued, and outcomes that weren't reaped are
+    /// dropped.
     ///
     /// Refused as `PowerLost` without power, and as `Busy` where a handle is open; then the volume stays as it was.
     pub fn unmount(self) -> Result<D, UnmountFail<D>>

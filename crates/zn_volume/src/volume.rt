@@ -1,10 +1,10 @@
 // What a volume keeps, and what its calls share.
-ghost use Rattle.std.specs.Prelude.{◌≡◌, ◌<◌, length, Bool, true, false};
+ghost use Rattle.std.specs.Prelude.{◌≡◌, ◌<◌, length, Bool, true, false, if◌then◌else◌};
 ghost use Rattle.zn_model.specs.ZoneFiles.{files_of};
-ghost use Rattle.zn_model.specs.Volume.{capacity_at};
+ghost use Rattle.zn_model.specs.Volume.{capacity_at, shown_at, failed, is_queued, is_queued_through, issued_end};
 ghost use Rattle.zn_model.specs.OpenClose.{owner_of};
 ghost use Rattle.zn_model.specs.Recovery.{refusal_of, after_failure};
-ghost use Rattle.zn_io.specs.Findings.{told_by};
+ghost use Rattle.zn_io.specs.Findings.{told_by, is_applied};
 ghost use Rattle.zn_volume.specs.Causes.{RecoveryCause};
 ghost use Rattle.zn_volume.specs.Means.{is_spoiling};
 ghost use Rattle.zn_volume.specs.Refusals.{is_failure};
@@ -15,7 +15,8 @@ use zn_device::Zoned;
 use zn_handle::Handles;
 use zn_inode::{Inodes, capacity};
 use zn_io::{is_passed_on, recover_file};
-use zn_model::{Policy, Refusal, Who};
+use zn_model::{Handle, Policy, Refusal, Who};
+use zn_queue::Queue;
 use zn_super::Super;
 use zn_truth::{DevError, ZoneInfo};
 
@@ -28,15 +29,16 @@ pub struct Volume<D: Zoned + Drop> {
     pub(crate) super_block: Super,
     pub(crate) inodes: Inodes,
     pub(crate) handles: Handles,
+    /// The writes in flight, and the outcomes that are not reaped.
+    pub(crate) queue: Queue,
     /// A place for each zone of the device, for reports.
     pub(crate) infos: Vec<ZoneInfo>,
-    /// Room for the blocks that cover a read.
+    /// Room for the blocks that cover a read, and for those of a request.
     pub(crate) scratch: Vec<u8>,
 }
 
 impl<D: Zoned + Drop> Model for Volume<D> {
     ghost use Rattle.std.specs.Prelude.{length};
-    ghost use Rattle.zn_model.specs.Mounting.{fresh_queue};
     ghost use Rattle.zn_volume.specs.VolumeState.{VolumeState, Agrees};
 
     ghost Value = { VolumeState };
@@ -49,12 +51,12 @@ impl<D: Zoned + Drop> Model for Volume<D> {
         explicit_open = v.explicit_open;
         inodes = v.inodes;
         handles = v.handles.handles;
-        queue = fresh_queue;
+        queue = v.queue.queue;
       };
     } };
 
-    ghost invariant = { λ v. Agrees (D.state v.dev).world v.inodes v.handles (length v.infos.items)
-        (length v.scratch.items) };
+    ghost invariant = { λ v. Agrees (D.state v.dev).world v.inodes v.handles v.queue.queue.queued
+        (length v.infos.items) (length v.scratch.items) };
 }
 
 /// A failure of the device, as a call tells it.
@@ -76,6 +78,17 @@ pub fn refusal(error: DevError) -> Refusal
     }
 }
 
+/// Ends the requests of a file with an input or output error, where a recovery was applied to it.
+pub(crate) fn end_recovered(queue: &mut Queue, f: u32, recovered: &Result<bool, DevError>)
+    ensures { let before = queue.old.queue in
+        queue.new.queue ≡ (if is_applied recovered.now then failed before f else before) }
+{
+    match recovered {
+        Ok(true) => queue.fail(f),
+        Ok(false) | Err(_) => {}
+    }
+}
+
 /// What is told after a recovery: the failure that it passes on, or else the refusal that was to be told.
 fn told(recovered: Result<bool, DevError>, refusal: Refusal) -> Refusal
     requires failure { is_failure refusal ≡ true }
@@ -89,7 +102,8 @@ fn told(recovered: Result<bool, DevError>, refusal: Refusal) -> Refusal
 }
 
 impl<D: Zoned + Drop> Volume<D> {
-    /// What follows a failed command of a call on a file: the refusal that is told.
+    /// What follows a failed command of a call on a file: the refusal that is told. Where recovery is applied to the file,
+    /// its requests end.
     #[tactic(auto, using(crate::proofs::Causing::passed_caused), unfolding(zn_model::specs::Recovery::after_failure, zn_model::specs::Recovery::recovered))]
     pub(crate) fn recover(&mut self, f: u32, error: DevError, after_read: bool) -> Refusal
         requires known { f < length (files_of self.old.volume.inodes.layout) }
@@ -113,7 +127,31 @@ impl<D: Zoned + Drop> Volume<D> {
             after_read,
             &mut self.infos,
         );
+        end_recovered(&mut self.queue, f, &recovered);
         told(recovered, refusal)
+    }
+
+    /// Where the last write that was issued to a file ends: behind what it shows and what waits for it.
+    pub(crate) fn issued_end(&self, f: u32) -> u64
+        requires { f < length (files_of self.now.volume.inodes.layout) }
+        ensures end { result ≡ issued_end self.now.volume f }
+        ensures idle { is_queued self.now.volume.queue f ≡ false → result ≡ (shown_at self.now.volume.inodes f).size }
+    {
+        self.inodes.shown(f).size + self.queue.queued(f)
+    }
+
+    /// Whether a request waits for a file.
+    pub(crate) fn is_busy(&self, f: u32) -> bool
+        ensures { result ≡ is_queued self.now.volume.queue f }
+    {
+        self.queue.queued(f) > 0
+    }
+
+    /// Whether a request waits that was submitted through a handle.
+    pub(crate) fn waits_through(&self, h: Handle) -> bool
+        ensures { result ≡ is_queued_through self.now.volume.queue h }
+    {
+        self.queue.through(h)
     }
 
     /// The bytes that a file has room for.

@@ -2,7 +2,7 @@
 ghost use Rattle.std.specs.Prelude.{◌≡◌, ◌≤◌, ◌<◌, length, Some, true, false, IfErr, IfSome, IfNone};
 ghost use Rattle.zn_model.specs.declared.limits.TheConstants.{MOST_BYTES};
 ghost use Rattle.zn_model.specs.ZoneFiles.{files_of};
-ghost use Rattle.zn_model.specs.Volume.{file_at, shown_at, Live};
+ghost use Rattle.zn_model.specs.Volume.{file_at, shown_at, is_queued, Live};
 ghost use Rattle.zn_model.specs.Writing.{write_call, write_by, write_now, write_at_once};
 ghost use Rattle.zn_io.specs.Files.{IsWritable};
 ghost use Rattle.zn_volume.specs.Causes.{CallCause};
@@ -23,9 +23,10 @@ impl<D: Zoned + Drop> Volume<D> {
     ///
     /// Refused as `PowerLost` without power, `BadHandle` where the handle isn't live, `BadMode` where it isn't open
     /// for writing, `FsReadOnly`, `FileOffline` or `FileReadOnly` by the rights, `Unaligned` where offset or length
-    /// are not in whole blocks, `TooBig` past the capacity, `BadOffset` off a sequential file's end, in this order;
-    /// no bytes are written at once after the rights. A failed command is told as `IoError`, `TooManyActive`,
-    /// `TooManyOpen`, `PowerLost`, `Broken` or `Memory`, and is followed by recovery.
+    /// are not in whole blocks, `TooBig` past the capacity, `BadOffset` where a sequential file's last issued write ends
+    /// elsewhere, `Busy` where requests of the file wait, in this order; no bytes are written at once after the rights.
+    /// A failed command is told as `IoError`, `TooManyActive`, `TooManyOpen`, `PowerLost`, `Broken` or `Memory`, and is
+    /// followed by recovery.
     #[tactic(auto, using(crate::proofs::Causing::still_caused), unfolding(zn_model::specs::Writing::write_call))]
     pub fn write(&mut self, h: Handle, offset: u64, bytes: &[u8]) -> Result<(), Refusal>
         requires unspoilt { self.old.device.spoilt ≡ false }
@@ -58,6 +59,7 @@ impl<D: Zoned + Drop> Volume<D> {
             (file_at self.now.volume.inodes on.now.file) (shown_at self.now.volume.inodes on.now.file) offset len) }
         ensures at_end { IfNone result ((file_at self.now.volume.inodes on.now.file).seq ≡ true →
             offset ≡ (shown_at self.now.volume.inodes on.now.file).size) }
+        ensures idle { IfNone result (is_queued self.now.volume.queue on.now.file ≡ false) }
     {
         let file = self.inodes.file(on.file);
         let shown = self.inodes.shown(on.file);
@@ -77,8 +79,10 @@ impl<D: Zoned + Drop> Volume<D> {
             Some(Err(Refusal::Unaligned))
         } else if capacity < len || capacity - len < offset {
             Some(Err(Refusal::TooBig))
-        } else if file.seq && offset != shown.size {
+        } else if file.seq && offset != self.issued_end(on.file) {
             Some(Err(Refusal::BadOffset))
+        } else if self.is_busy(on.file) {
+            Some(Err(Refusal::Busy))
         } else {
             None
         }
@@ -114,6 +118,7 @@ impl<D: Zoned + Drop> Volume<D> {
             offset ≡ (shown_at self.old.volume.inodes f).size }
         requires writable { IsWritable self.old.volume.inodes.shape (file_at self.old.volume.inodes f)
             (shown_at self.old.volume.inodes f) offset (length bytes.now) }
+        requires idle { is_queued self.old.volume.queue f ≡ false }
         requires unspoilt { self.old.device.spoilt ≡ false }
         ensures reply { self.new.device.spoilt ≡ false →
             result ≡ (write_now (mounted_in self.old) f offset bytes.now).reply }

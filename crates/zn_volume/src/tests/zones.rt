@@ -1,8 +1,7 @@
 // Truncations, attributes, and the zone commands of opens and closes.
-ghost use Rattle.std.specs.Prelude.{◌≡◌, ◌≤◌, length, false};
-ghost use Rattle.zn_model.specs.declared.limits.TheConstants.{MOST_BYTES};
+ghost use Rattle.std.specs.Prelude.{◌≡◌, false};
 
-use super::{WHO, copies, is_told, put};
+use super::{WHO, close, copies, is_told, put, size, write};
 use crate::Volume;
 use bitflags::Flags;
 use std::alloc::Global;
@@ -62,19 +61,7 @@ fn open(
     requires unspoilt { volume.old.device.spoilt ≡ false }
     ensures unspoilt { volume.new.device.spoilt ≡ false }
 {
-    assert!(rt; volume.opened() < 1024);
-    let reply = volume.open(path, mode, WHO);
-    assert!(rt; is_told(&reply));
-    reply
-}
-
-fn close(rt: &impl Abort, volume: &mut Volume<MemDevice>, h: Handle) -> Result<(), Refusal>
-    requires unspoilt { volume.old.device.spoilt ≡ false }
-    ensures unspoilt { volume.new.device.spoilt ≡ false }
-{
-    let reply = volume.close(h);
-    assert!(rt; is_told(&reply));
-    reply
+    super::open(rt, volume, path, mode, WHO)
 }
 
 fn truncate(
@@ -91,20 +78,17 @@ fn truncate(
     reply
 }
 
-fn write(
-    rt: &impl Abort,
-    volume: &mut Volume<MemDevice>,
-    h: Handle,
-    offset: u64,
-    bytes: &[u8],
-) -> Result<(), Refusal>
+fn sync(rt: &impl Abort, volume: &mut Volume<MemDevice>, h: Handle) -> Result<(), Refusal>
     requires unspoilt { volume.old.device.spoilt ≡ false }
-    requires len { length bytes.now ≤ MOST_BYTES }
     ensures unspoilt { volume.new.device.spoilt ≡ false }
 {
-    let reply = volume.write(h, offset, bytes);
+    let reply = volume.sync(h);
     assert!(rt; is_told(&reply));
     reply
+}
+
+fn attr_of(volume: &Volume<MemDevice>) -> Result<Attr, Refusal> {
+    volume.attr()
 }
 
 fn attr(max_wro: u32, nr_wro: u32, max_active: u32, nr_active: u32) -> Result<Attr, Refusal> {
@@ -151,7 +135,7 @@ fn writers_are_limited(rt: HostRuntime) -> Result<(), Fail> {
     assert_eq!(rt; refused, Err(Refusal::TooManyWriters));
     assert_eq!(rt; close(&rt, &mut volume, full), Ok(()));
     assert!(rt; open(&rt, &mut volume, "seq/3", BOTH).is_ok());
-    assert_eq!(rt; volume.attr(), attr(2, 2, 0, 1));
+    assert_eq!(rt; attr_of(&volume), attr(2, 2, 0, 1));
     Ok(())
 }
 
@@ -167,9 +151,9 @@ fn other_sizes_are_refused(rt: HostRuntime) -> Result<(), Fail> {
     assert_eq!(rt; truncate(&rt, &mut volume, h, 0), Ok(()));
     assert_eq!(rt; truncate(&rt, &mut volume, h, 16384), Ok(()));
     assert_eq!(rt; truncate(&rt, &mut volume, h, 16384), Ok(()));
-    assert_eq!(rt; volume.size(h), Ok(16384));
+    assert_eq!(rt; size(&volume, h), Ok(16384));
     assert_eq!(rt; truncate(&rt, &mut volume, h, 0), Ok(()));
-    assert_eq!(rt; volume.size(h), Ok(0));
+    assert_eq!(rt; size(&volume, h), Ok(0));
     let reader = open(&rt, &mut volume, "seq/0", Mode::READ)?;
     let reply = truncate(&rt, &mut volume, reader, 0);
     assert_eq!(rt; reply, Err(Refusal::BadMode));
@@ -187,21 +171,21 @@ fn full_files_are_not_active(rt: HostRuntime) -> Result<(), Fail> {
         let dev = device(&rt, rt.alloc(), 0, 5)?;
         let mut volume = mounted(&rt, rt.alloc(), dev, explicit_open);
         let h = open(&rt, &mut volume, "seq/0", BOTH)?;
-        assert_eq!(rt; volume.attr(), attr(0, 1, 5, opened));
+        assert_eq!(rt; attr_of(&volume), attr(0, 1, 5, opened));
         for offset in [0, 4096, 8192] {
             assert_eq!(rt; write(&rt, &mut volume, h, offset, &block), Ok(()));
-            assert_eq!(rt; volume.attr(), attr(0, 1, 5, 1));
+            assert_eq!(rt; attr_of(&volume), attr(0, 1, 5, 1));
         }
         assert_eq!(rt; write(&rt, &mut volume, h, 12288, &block), Ok(()));
-        assert_eq!(rt; volume.attr(), attr(0, 1, 5, 0));
+        assert_eq!(rt; attr_of(&volume), attr(0, 1, 5, 0));
         assert_eq!(rt; truncate(&rt, &mut volume, h, 0), Ok(()));
-        assert_eq!(rt; volume.attr(), attr(0, 1, 5, 0));
+        assert_eq!(rt; attr_of(&volume), attr(0, 1, 5, 0));
         assert_eq!(rt; write(&rt, &mut volume, h, 0, &block), Ok(()));
-        assert_eq!(rt; volume.attr(), attr(0, 1, 5, 1));
+        assert_eq!(rt; attr_of(&volume), attr(0, 1, 5, 1));
         assert_eq!(rt; truncate(&rt, &mut volume, h, 16384), Ok(()));
-        assert_eq!(rt; volume.attr(), attr(0, 1, 5, 0));
+        assert_eq!(rt; attr_of(&volume), attr(0, 1, 5, 0));
         assert_eq!(rt; close(&rt, &mut volume, h), Ok(()));
-        assert_eq!(rt; volume.attr(), attr(0, 0, 5, 0));
+        assert_eq!(rt; attr_of(&volume), attr(0, 0, 5, 0));
     }
     Ok(())
 }
@@ -237,8 +221,6 @@ fn a_file_is_synced(rt: HostRuntime) -> Result<(), Fail> {
     let h = open(&rt, &mut volume, "cnv/0", BOTH);
     assert_eq!(rt; h, Err(Refusal::NoSuchFile));
     let h = open(&rt, &mut volume, "seq/0", Mode::READ)?;
-    let reply = volume.sync(h);
-    assert!(rt; is_told(&reply));
-    assert_eq!(rt; reply, Ok(()));
+    assert_eq!(rt; sync(&rt, &mut volume, h), Ok(()));
     Ok(())
 }

@@ -1,6 +1,5 @@
-use Rattle.std.proofs.Common.{◌≡◌, List, Ok, Err, refl, sym, ap, ◌∙◌, subst, rules}
+use Rattle.std.proofs.Common.{◌≡◌, List, Ok, Err, refl, sym, ◌∙◌, subst, rules}
 use Rattle.std.proofs.lemmas.Grind.{common_steps}
-use Rattle.zn_truth.specs.declared.ZoneInfo.{ZoneInfo}
 use Rattle.zn_truth.specs.Orders.{Order}
 use Rattle.zn_device.specs.States.{Ordered}
 use Rattle.zn_model.specs.Looks.{all_infos}

@@ -1,5 +1,4 @@
-use Rattle.std.proofs.Common.{◌≡◌, ◌≤◌, length, refl, sym, ap, ◌∙◌, subst, arith, Err}
-use Rattle.zn_model.specs.declared.answers.MountError.{MountError}
+use Rattle.std.proofs.Common.{◌≤◌, length, refl, sym, ◌∙◌, subst, arith, Err}
 use Rattle.zn_model.specs.declared.answers.MountError.TheVariants.{NotFormatted}
 use Rattle.zn_model.specs.declared.answers.Why.{Why}
 use Rattle.zn_volume.specs.MountSteps.{read_copies, Finds}

@@ -1,4 +1,3 @@
-use Rattle.std.proofs.Common.{sym, ◌∙◌}
 use Rattle.zn_volume.proofs.laws.lies_on_device.Goals as goal
 
 pub returns : goal.returns
@@ -7,6 +6,7 @@ returns g c = rw (← c.volume.view_is) (record {
   files = c.volume.invariant.files;
   single = c.volume.invariant.single;
   shape = c.volume.invariant.shape;
-  shown = sym c.files.ensures.shown ∙ c.files.ensures.count;
+  shown = c.volume.invariant.shown;
   sizes = c.volume.invariant.sizes;
+  flight = c.volume.invariant.flight;
 })

@@ -7,5 +7,5 @@ use Rattle.zn_volume.proofs.volume.Volume.arm_loss.Goals as goal
 
 pub invariant_of-self : goal.invariant_of-self
 invariant_of-self g c =
-    agrees_on (g.D.Zoned.state c.self.inside.dev).world _ _ _ _ _ _
+    agrees_on (g.D.Zoned.state c.self.inside.dev).world _ _ _ _ _ _ _
     (ap (λ (s : DeviceState). geometry_of s.world) c.arm_loss.ensures.waits ∙ armed_geometry (g.D.Zoned.state c.self.inside.dev).world _) refl c.self.invariant

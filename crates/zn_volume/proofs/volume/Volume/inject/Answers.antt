@@ -6,5 +6,5 @@ use Rattle.zn_volume.proofs.volume.Volume.inject.Goals as goal
 
 pub invariant_of-self : goal.invariant_of-self
 invariant_of-self g c =
-    agrees_on (g.D.Zoned.state c.self.inside.dev).world _ _ _ _ _ _
+    agrees_on (g.D.Zoned.state c.self.inside.dev).world _ _ _ _ _ _ _
     (ap (λ (s : DeviceState). geometry_of s.world) c.inject.ensures.waits ∙ injected_geometry (g.D.Zoned.state c.self.inside.dev).world c.args.fault) refl c.self.invariant

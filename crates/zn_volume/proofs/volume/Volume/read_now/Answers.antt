@@ -15,11 +15,11 @@ use Rattle.zn_volume.proofs.volume.Volume.read_now.Goals as goal
 
 pub invariant_of-self : goal.invariant_of-self
 invariant_of-self g c =
-    agrees_on (g.D.Zoned.state c.self.inside.dev).world _ _ _ _ _ _ c.read_file.ensures.done.obeys.geometry (grind (arith, common_steps)) c.self.invariant
+    agrees_on (g.D.Zoned.state c.self.inside.dev).world _ _ _ _ _ _ _ c.read_file.ensures.done.obeys.geometry (grind (arith, common_steps)) c.self.invariant
 
 pub invariant_of-self-in-Err : goal.invariant_of-self-in-Err
 invariant_of-self-in-Err g c =
-    agrees_on (g.D.Zoned.state c.self.inside.dev).world _ _ _ _ _ _ c.read_file.ensures.done.obeys.geometry (grind (arith, common_steps)) c.self.invariant
+    agrees_on (g.D.Zoned.state c.self.inside.dev).world _ _ _ _ _ _ _ c.read_file.ensures.done.obeys.geometry (grind (arith, common_steps)) c.self.invariant
 
 pub returns-in-Ok-clause-cause : goal.returns-in-Ok-clause-cause
 returns-in-Ok-clause-cause g c = rw (← c.self.view_is) (answered_caused _ (Ok tt) (Ok c.in-Ok.count) _ _ c.in-Ok.ensures.done refl refl)
@@ -32,7 +32,7 @@ returns-in-Err-clause-io_error g c =
     let D = g.D.Zoned in
     let inodes = c.self.inside.inodes in
     let known = subst (λ (s : VolumeState). c.args.f < length (files_of s.volume.inodes.layout)) (sym c.self.view_is) c.requires.known in
-    let size = room_in _ _ _ _ _ c.args.f c.self.invariant known in
+    let size = room_in _ _ _ _ _ _ c.args.f c.self.invariant known in
     let there = subst (λ (file : FileZones). Ordered (read_orders (shape_of (g.D.Zoned.state c.self.inside.dev).world) file c.args.offset (read_end c.shown-shown.result c.args.offset (length c.args.out.now))) (Err c.in-Err.error) (g.D.Zoned.state c.self.inside.dev) (g.D.Zoned.state c.read_file.new.dev)) c.file-file.ensures c.in-Err.ensures.done in
     let done = subst (λ (shown : Shown). Ordered (read_orders (shape_of (g.D.Zoned.state c.self.inside.dev).world) (file_at c.self.inside.inodes c.args.f) c.args.offset (read_end shown c.args.offset (length c.args.out.now))) (Err c.in-Err.error) (g.D.Zoned.state c.self.inside.dev) (g.D.Zoned.state c.read_file.new.dev)) c.shown-shown.ensures there in
     rw (← c.self.view_is) (failed_io c.in-Err.error c.recover.result c.self.inside.inodes c.args.f (D.state c.self.inside.dev) (D.state c.read_file.new.dev) c.recover.new.self.device c.recover.ensures.cause

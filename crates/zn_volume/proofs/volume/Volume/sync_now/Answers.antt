@@ -1,4 +1,4 @@
-use Rattle.std.proofs.Common.{Ok, Err, refl}
+use Rattle.std.proofs.Common.{Ok, refl}
 use Rattle.zn_device.proofs.Ordered.{ordered_one}
 use Rattle.zn_volume.proofs.Causing.{answered_caused, failed_caused}
 use Rattle.zn_volume.proofs.IoErrors.{flush_fails}

@@ -1,14 +1,24 @@
-use Rattle.std.proofs.Common.{◌≡◌, ◌<◌, Ok, Err, length, refl, sym, subst}
+use Rattle.std.proofs.Common.{◌≡◌, ◌<◌, ◌≤◌, ℕ, true, false, Ok, Err, length, refl, sym, ap, subst}
 use Rattle.zn_device.specs.States.{Ordered}
 use Rattle.zn_model.specs.declared.files.FileZones.{FileZones}
 use Rattle.zn_model.specs.declared.files.Shown.{Shown}
 use Rattle.zn_model.specs.Truncating.{truncate_orders}
-use Rattle.zn_model.specs.Volume.{file_at, shown_at}
+use Rattle.zn_model.specs.Volume.{file_at, shown_at, capacity_at, is_queued}
 use Rattle.zn_model.specs.ZoneFiles.{files_of}
 use Rattle.zn_volume.specs.VolumeState.{VolumeState}
 use Rattle.zn_volume.proofs.Causing.{answered_caused, failed_caused}
+use Rattle.zn_volume.proofs.Keeping.{agrees_resized}
 use Rattle.zn_volume.proofs.IoErrors.{truncate_fails, failed_io}
 use Rattle.zn_volume.proofs.volume.Volume.truncate_now.Goals as goal
+
+pub invariant_of-self-2 : goal.invariant_of-self-2
+invariant_of-self-2 g c =
+    let sequential = subst (λ (s : VolumeState). (file_at s.volume.inodes c.args.f).seq ≡ true) (sym c.self.view_is) c.requires.sequential in
+    let below = subst (λ (s : VolumeState). c.args.size ≤ capacity_at s.volume.inodes c.args.f) (sym c.self.view_is) c.requires.size in
+    let idle = subst (λ (s : VolumeState). is_queued s.volume.queue c.args.f ≡ false) (sym c.self.view_is) c.requires.idle in
+    let size : c.truncate_file.new.shown.size ≡ c.args.size = ap (λ (s : Shown). s.size) c.in_default.ensures.shown in
+    agrees_resized (g.D.Zoned.state c.self.inside.dev).world _ c.self.inside.inodes _ c.args.f c.truncate_file.new.shown _ c.self.inside.queue.queue _ _ _ c.in_default.ensures.done.obeys.geometry refl sequential idle c.set.ensures.set
+    (c.set.ensures.within c.self.invariant.sizes (subst (λ (n : ℕ). n ≤ capacity_at c.self.inside.inodes c.args.f) (sym size) below)) c.self.invariant
 
 pub returns-clause-cause : goal.returns-clause-cause
 returns-clause-cause g c = rw (← c.self.view_is) (answered_caused _ (Ok tt) (Ok tt) _ _ c.in_default.ensures.done refl refl)
