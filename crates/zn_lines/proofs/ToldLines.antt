@@ -36,8 +36,9 @@ use Rattle.zn_model.specs.Formatting.{super_block_by}
 use Rattle.zn_lines.specs.Session.{Stepped, line_now, line_step, says, says_error, on_volume, on_handle, handle_then, opens, open_line, close_line, freed_by, is_busy, unmounts, unless_mounted, format_with, label_in, uuid_in, features_in, mount_with, mounts, options_in, formats, tells, dropped_unless}
 use Rattle.zn_model.specs.Volume.{Live, Volume, Mounted, file_at, shown_at, live_at}
 use Rattle.zn_lines.specs.Transcript.{Transcript, stop, with_text, first_given, more_given, line_then, last_piece, transcript_from, pieces, transcript_at}
+use Rattle.zn_model.proofs.KeysKeptQueue.{complete_keeps, reap_keeps}
 use Rattle.zn_model.proofs.KeysKeptCalls.{size_keeps, read_keeps, write_keeps, truncate_keeps, sync_keeps, stat_keeps, entries_keeps, attr_keeps}
-use Rattle.zn_model.proofs.ToldCalls.{open_told, close_told, mount_told, format_told}
+use Rattle.zn_model.proofs.ToldCalls.{open_told, close_told, submit_told, mount_told, format_told}
 
 -- the table after this is one of a device that tells its bytes exactly where the other does
 abbrev Still : Table → Stepped → Type 0
@@ -107,9 +108,9 @@ now_still given table (ReadFrom n offset len) = handle_then_still table n _ (λ 
 now_still given table (WriteTo n offset runs) = handle_then_still table n _ (λ v h. (write_keeps (record { world = table.world; volume = v }) h offset (bytes_of runs)).told)
 now_still given table (TruncateTo n size) = handle_then_still table n _ (λ v h. (truncate_keeps (record { world = table.world; volume = v }) h size).told)
 now_still given table (SyncFile n) = handle_then_still table n _ (λ v h. (sync_keeps (record { world = table.world; volume = v }) h).told)
-now_still given table (SubmitTo n offset runs) = handle_then_still table n _ (λ v h. refl)
-now_still given table Complete = on_volume_still table.volume table _ (λ v. refl)
-now_still given table Reap = on_volume_still table.volume table _ (λ v. refl)
+now_still given table (SubmitTo n offset runs) = handle_then_still table n _ (λ v h. submit_told (record { world = table.world; volume = v }) h offset (bytes_of runs))
+now_still given table Complete = on_volume_still table.volume table _ (λ v. (complete_keeps (record { world = table.world; volume = v })).told)
+now_still given table Reap = on_volume_still table.volume table _ (λ v. (reap_keeps (record { world = table.world; volume = v })).told)
 now_still given table (StatOf path) = on_volume_still table.volume table _ (λ v. (stat_keeps (record { world = table.world; volume = v }) path).told)
 now_still given table (ListOf path) = on_volume_still table.volume table _ (λ v. (entries_keeps (record { world = table.world; volume = v }) path).told)
 now_still given table Attributes = on_volume_still table.volume table _ (λ v. (attr_keeps (record { world = table.world; volume = v })).told)

@@ -3,12 +3,15 @@ use Rattle.std.specs.Prelude.{◌≡◌, ℕ, true, false, List, [], ◌∷◌, 
 use Rattle.zn_truth.specs.declared.Command.TheVariants.{Read as Reading, Write as Writing, Reset as Resetting, Flush as Flushing, Report as Reporting}
 use Rattle.zn_truth.specs.declared.Cond.TheVariants.{ReadOnly, Offline}
 use Rattle.zn_truth.specs.declared.ZoneNo.{ZoneNo}
+use Rattle.zn_model.specs.declared.answers.Outcome.TheVariants.{Ok as WasDone, IoError, TooManyActive, TooManyOpen}
+use Rattle.zn_model.specs.declared.answers.Refusal.TheVariants.{QueueFull, PoolEmpty, NothingQueued, NothingDone}
 use Rattle.zn_model.specs.declared.limits.TheConstants.{MOST_BYTES}
 use Rattle.zn_lines.specs.declared.words.Change.TheVariants.{Create, Rename, Chmod, Chown}
 use Rattle.zn_lines.specs.Lines.{FormatWords, plain_format, Line, Mkfs, Mount, Umount, OpenFile, CloseFile, SizeOf, ReadFrom, WriteTo, TruncateTo, SyncFile, SubmitTo, Complete, Reap, StatOf, ListOf, Attributes, Changes, Zones, FaultOn, TurnTo, PowerLoss, PowerLossIn, PowerOn}
 use Rattle.zn_base.specs.Decimals.{number_in}
 use Rattle.zn_lines.specs.Grammar.{last_offset, last_zone, last_u32, who_named, root, line_of, reading_of}
 use Rattle.zn_lines.specs.LineTexts.{spaced, line_text}
+use Rattle.zn_lines.specs.ReplyTexts.{refusal_name, reply_text, number_text, done_text}
 
 -- ---- lines
 
@@ -131,6 +134,18 @@ pub record RequestsRead : Type 0 where
   pub last : line_of (codes "submit 2047 18446744073709551615 61*4096") ≡ Ok submit_last
   pub complete : line_of (codes "complete") ≡ Ok Complete
   pub reap : line_of (codes "reap") ≡ Ok Reap
+
+-- what is told of requests: a ticket, and how the request that has it ended
+pub record RequestsTold : Type 0 where
+  pub submitted : reply_text number_text refusal_name (Ok 3) ≡ codes "ok 3\n"
+  pub full : reply_text number_text refusal_name (Err QueueFull) ≡ codes "error queue-full\n"
+  pub no_blocks : reply_text number_text refusal_name (Err PoolEmpty) ≡ codes "error pool-empty\n"
+  pub none_queued : reply_text number_text refusal_name (Err NothingQueued) ≡ codes "error nothing-queued\n"
+  pub written : reply_text done_text refusal_name (Ok (record { ticket = 1; outcome = WasDone })) ≡ codes "ok 1 ok\n"
+  pub failed : reply_text done_text refusal_name (Ok (record { ticket = 20; outcome = IoError })) ≡ codes "ok 20 io-error\n"
+  pub too_many_active : reply_text done_text refusal_name (Ok (record { ticket = 300; outcome = TooManyActive })) ≡ codes "ok 300 too-many-active\n"
+  pub too_many_open : reply_text done_text refusal_name (Ok (record { ticket = 4000; outcome = TooManyOpen })) ≡ codes "ok 4000 too-many-open\n"
+  pub none_ended : reply_text done_text refusal_name (Err NothingDone) ≡ codes "error nothing-done\n"
 
 -- A report of all zones, and losses and return of power. Whether the device has the zones, and may be cut so, is no matter
 -- of the grammar.

@@ -103,10 +103,6 @@ outcome_name had_io_error = codes "io-error"
 outcome_name had_too_many_active = codes "too-many-active"
 outcome_name had_too_many_open = codes "too-many-open"
 
--- what can't be carried out yet
-abbrev pub not_built : List ℕ
-not_built = codes "not-built"
-
 -- ---- lines
 
 -- `error` and a name, which may have several words, on a line

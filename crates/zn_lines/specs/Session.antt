@@ -26,6 +26,7 @@ use Rattle.zn_model.specs.Recovery.{refusal_of}
 use Rattle.zn_model.specs.Writing.{write_call}
 use Rattle.zn_model.specs.Reading.{read_call, size_call}
 use Rattle.zn_model.specs.Truncating.{truncate_call, sync_call}
+use Rattle.zn_model.specs.Requests.{submit_call, complete_call, reap_call}
 use Rattle.zn_model.specs.OpenClose.{open_call, close_call}
 use Rattle.zn_model.specs.Looks.{stat_call, entries_call, attr_call, change_refusal, all_infos, report_all, place_in}
 use Rattle.zn_model.specs.Mounting.{MountAnswer, mount_call, unmount_refusal}
@@ -33,7 +34,7 @@ use Rattle.zn_model.specs.Formatting.{FormatAnswer, super_block_by, format_call}
 use Rattle.zn_model.specs.Options.{mount_options, format_options}
 use Rattle.zn_lines.specs.Table.{Table, no_numbers, with_mounted, handle_of, with_number, without_number}
 use Rattle.zn_lines.specs.Lines.{FormatWords, Line, Mkfs, Mount, Umount, OpenFile, CloseFile, SizeOf, ReadFrom, WriteTo, TruncateTo, SyncFile, SubmitTo, Complete, Reap, StatOf, ListOf, Attributes, Changes, Zones, FaultOn, TurnTo, PowerLoss, PowerLossIn, PowerOn, bytes_of}
-use Rattle.zn_lines.specs.ReplyTexts.{refusal_name, mount_error_name, format_error_name, option_error_name, inject_error_name, not_built, error_text, ok_text, number_text, reply_text, plain, read_text, stat_text, list_text, attr_text, zones_text}
+use Rattle.zn_lines.specs.ReplyTexts.{refusal_name, mount_error_name, format_error_name, option_error_name, inject_error_name, error_text, ok_text, number_text, reply_text, plain, read_text, done_text, stat_text, list_text, attr_text, zones_text}
 
 -- a line's reply, and the table after it
 pub record Stepped : Type 0 where
@@ -214,10 +215,9 @@ line_now given table (ReadFrom n offset len) = handle_then table n (λ m h. tell
 line_now given table (WriteTo n offset runs) = handle_then table n (λ m h. tells plain table (write_call m h offset (bytes_of runs)))
 line_now given table (TruncateTo n size) = handle_then table n (λ m h. tells plain table (truncate_call m h size))
 line_now given table (SyncFile n) = handle_then table n (λ m h. tells plain table (sync_call m h))
--- requests can't be queued yet
-line_now given table (SubmitTo n offset runs) = handle_then table n (λ m h. says_error not_built table)
-line_now given table Complete = mounted_then table (λ m. says_error not_built table)
-line_now given table Reap = mounted_then table (λ m. says_error not_built table)
+line_now given table (SubmitTo n offset runs) = handle_then table n (λ m h. tells number_text table (submit_call m h offset (bytes_of runs)))
+line_now given table Complete = mounted_then table (λ m. tells number_text table (complete_call m))
+line_now given table Reap = mounted_then table (λ m. tells done_text table (reap_call m))
 line_now given table (StatOf path) = mounted_then table (λ m. tells (stat_text path) table (stat_call m path))
 line_now given table (ListOf path) = mounted_then table (list_line table path)
 line_now given table Attributes = mounted_then table (λ m. tells attr_text table (attr_call m))

@@ -2,7 +2,7 @@
 ghost use Rattle.zn_lines.specs.LineLaws.{WrittenIsRead, ReadIsWritten, TextIsRead, ReadingIsLine};
 ghost use Rattle.zn_lines.specs.LineCases.{LinesRead, FormatsRead, UsersRead, FaultsRead, LinesWritten, VerbsRefused};
 ghost use Rattle.zn_lines.specs.LineCases.{WordsRefused, FormatsRefused, UsersRefused, FaultsRefused, DataRefused};
-ghost use Rattle.zn_lines.specs.LineCases.{RequestsRead, RequestsRefused, LossesRead, LossesRefused};
+ghost use Rattle.zn_lines.specs.LineCases.{RequestsRead, RequestsTold, RequestsRefused, LossesRead, LossesRefused};
 ghost use Rattle.zn_lines.specs.LineCases.{CommentsRead, NumbersRead};
 
 /// What is a text of a line is read as that line.
@@ -49,6 +49,11 @@ pub fn faults_are_read()
 /// Some lines of requests.
 pub fn requests_are_read()
     ensures { RequestsRead }
+{}
+
+/// What is told of some requests.
+pub fn requests_are_told()
+    ensures { RequestsTold }
 {}
 
 /// Some lines that report zones, and let the power go and come back.

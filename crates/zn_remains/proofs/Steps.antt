@@ -9,12 +9,13 @@ use Rattle.zn_model.specs.Looks.{stat_call, entries_call, attr_call}
 use Rattle.zn_model.specs.Mounting.{unmount_refusal}
 use Rattle.zn_model.specs.OpenClose.{open_call, close_call}
 use Rattle.zn_model.specs.Reading.{read_call, size_call}
+use Rattle.zn_model.specs.Requests.{submit_call, complete_call, reap_call}
 use Rattle.zn_model.specs.Truncating.{truncate_call, sync_call}
 use Rattle.zn_model.specs.Writing.{write_call}
 use Rattle.zn_model.specs.Volume.{Volume, Mounted}
 use Rattle.zn_model.specs.ZoneFiles.{file_named, listing_of}
 use Rattle.zn_lines.specs.Lines.{Line, Mkfs, Mount, Umount, OpenFile, CloseFile, SizeOf, ReadFrom, WriteTo, TruncateTo, SyncFile, SubmitTo, Complete, Reap, StatOf, ListOf, Attributes, Changes, Zones, FaultOn, TurnTo, PowerLoss, PowerLossIn, PowerOn, bytes_of}
-use Rattle.zn_lines.specs.ReplyTexts.{plain, reply_text, refusal_name, number_text, read_text, stat_text, list_text, attr_text}
+use Rattle.zn_lines.specs.ReplyTexts.{plain, reply_text, refusal_name, number_text, read_text, done_text, stat_text, list_text, attr_text}
 use Rattle.zn_lines.specs.Session.{Stepped, says_error, opens, open_line, close_line, unmounts, names_in, features_in, options_in, list_line, line_now, line_step, dropped_unless}
 use Rattle.zn_lines.specs.Table.{Table, handle_of, with_mounted}
 use Rattle.zn_remains.specs.Events.{Event, Ordered, FaultAsked, Turned, PowerLost, LossArmed, PowerBack, after_event, after_events, FitsIn}
@@ -22,6 +23,7 @@ use Rattle.zn_remains.specs.LineEvents.{Makes, truncates, asked_by, commands_of,
 use Rattle.zn_remains.proofs.CallOrders.{OrdersOf}
 use Rattle.zn_remains.proofs.CallsOnFiles.{read_commands, write_commands, sync_commands, read_went, write_went, truncate_went, sync_went}
 use Rattle.zn_remains.proofs.CallsOnHandles.{open_commands, close_commands, open_went, close_went}
+use Rattle.zn_remains.proofs.CallsOnRequests.{submit_went, complete_went, reap_went}
 use Rattle.zn_remains.proofs.Looking.{size_went, stat_went, entries_went, attr_went}
 use Rattle.zn_remains.proofs.Lines.{Sits, Led, AgreesIf, led_nowhere, led_chosen, led_told, led_opens, led_freed, led_unmounts, on_volume_led, handle_then_led, on_any_volume_led, any_handle_led, mkfs_led, mount_led, zones_led}
 use Rattle.zn_remains.proofs.Standing.{Stands, stands_events}
@@ -111,9 +113,12 @@ module _ (g : Geometry) (limits : IsWithinLimits g) (given : List ℕ) (table : 
       (handle_then_led g (truncates (size == 0)) table sits n _ (λ v h agrees. led_told g _ table sits plain (truncate_call (on v) h size) (truncate_went g (on v) h size sits.stands agrees)))
   now_led (SyncFile n) = by_orders g table (SyncFile n) _ refl
       (any_handle_led g sync_commands table sits n _ (λ z. false) (λ v h agrees. led_told g _ table sits plain (sync_call (on v) h) (sync_went g (on v) h sits.stands agrees)))
-  now_led (SubmitTo n offset runs) = by_orders g table (SubmitTo n offset runs) _ refl (any_handle_led g [] table sits n _ (λ z. false) (λ v h agrees. led_nowhere g _ table sits _))
-  now_led Complete = by_orders g table Complete _ refl (on_volume_led g write_commands table sits table.volume (λ v. in_first v v.queue.queued) _ sits.agrees (λ v agrees. led_nowhere g _ table sits _))
-  now_led Reap = by_orders g table Reap _ refl (on_any_volume_led g [] table sits _ (λ z. false) (λ v agrees. led_nowhere g _ table sits _))
+  now_led (SubmitTo n offset runs) = by_orders g table (SubmitTo n offset runs) _ refl
+      (any_handle_led g [] table sits n _ (λ z. false) (λ v h agrees. led_told g _ table sits number_text (submit_call (on v) h offset (bytes_of runs)) (submit_went g (on v) h offset (bytes_of runs) agrees)))
+  now_led Complete = by_orders g table Complete _ refl
+      (on_volume_led g write_commands table sits table.volume (λ v. in_first v v.queue.queued) _ sits.agrees (λ v agrees. led_told g _ table sits number_text (complete_call (on v)) (complete_went g (on v) sits.stands agrees)))
+  now_led Reap = by_orders g table Reap _ refl
+      (on_any_volume_led g [] table sits _ (λ z. false) (λ v agrees. led_told g _ table sits done_text (reap_call (on v)) (reap_went g (on v) agrees)))
   now_led (StatOf path) = by_orders g table (StatOf path) _ refl
       (on_any_volume_led g [] table sits _ (λ z. false) (λ v agrees. led_told g _ table sits (stat_text path) (stat_call (on v) path) (stat_went g (on v) path agrees)))
   now_led (ListOf path) = by_orders g table (ListOf path) _ refl

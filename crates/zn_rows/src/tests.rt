@@ -2,6 +2,7 @@ mod faults;
 mod policies;
 mod power;
 mod recovery;
+mod requests;
 mod volumes;
 
 use std::alloc::{AllocError, Global};

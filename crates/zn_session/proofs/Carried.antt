@@ -33,7 +33,7 @@ ends_at_once line reply kept entropy old new numbers0 numbers stopped means = re
   writable = means.writable;
   step = λ goes. absurd (false≢true (sym goes ∙ stopped));
   numbered = means.numbered;
-  opened = means.opened;
+  used = means.used;
   cause = means.cause;
 }
 
@@ -53,7 +53,7 @@ ends_dropped line reply kept entropy old mid new numbers0 numbers1 numbers goes 
           step_by means.given (table_by entropy old numbers0) line (text_of reply kept) (table_by entropy mid numbers1) (means.step goes)
           ∙ ap (says (text_of reply kept)) (sym (dropped.table entropy));
       numbered = λ _. dropped.numbered;
-      opened = λ _. omega (arith, means.opened goes, dropped.opened);
+      used = λ _. omega (arith, means.used goes, dropped.used);
       cause = subst Causes (sym dropped.device) means.cause;
     }
 

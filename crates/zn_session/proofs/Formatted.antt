@@ -87,7 +87,7 @@ module _ (words : FormatWords) (kept : Kept) (entropy : List ℕ) (d : DeviceSta
           writable = reply_writable result kept;
           step = λ goes. absurd (false≢true (sym (goes_on goes) ∙ ap (λ (r : FormatReply). spoils (format_told r)) is.why));
           numbered = λ goes. none;
-          opened = λ goes. omega arith;
+          used = λ goes. omega arith;
           cause = causes (ap (λ (s : DeviceState). geometry_of s.world) is.same);
         }
 
@@ -100,7 +100,7 @@ module _ (words : FormatWords) (kept : Kept) (entropy : List ℕ) (d : DeviceSta
               ∙ ap (λ (a : FormatAnswer). formats a (table_by entropy (bare_held d) numbers)) (is.call (format_goes cause (goes_on goes)))
               ∙ ap (λ text. says text (table_by entropy (bare_held after) numbers)) (sym (reply_says result kept));
           numbered = λ goes. none;
-          opened = λ goes. omega arith;
+          used = λ goes. omega arith;
           cause = causes is.commands.obeys.geometry;
         }
 

@@ -32,7 +32,7 @@ use Rattle.zn_volume.specs.VolumeState.{VolumeState}
 use Rattle.zn_volume.proofs.Keeping.{injected_geometry}
 use Rattle.zn_volume.proofs.Powering.{armed_geometry, powered_geometry}
 use Rattle.zn_session.specs.Replies.{Kept, text_of, inject_reply, IsWritable}
-use Rattle.zn_session.specs.SessionState.{HeldState, bare_held, mounted_held, table_by, unkeyed_numbers, numbered_on, AreNumbered, opened_on}
+use Rattle.zn_session.specs.SessionState.{HeldState, bare_held, mounted_held, table_by, unkeyed_numbers, numbered_on, AreNumbered, used_on}
 use Rattle.zn_session.specs.Steps.{told_by, ends, LineCause, Harms, Means}
 use Rattle.zn_session.specs.declared.replies.Reply.TheVariants.{InjectRefused, Done}
 use Rattle.zn_session.proofs.LineCauses.{flag_cases}
@@ -126,7 +126,7 @@ harmed line meant result kept entropy old new numbers does harms numbered = reco
       ∙ ap (λ (w : World). says (text_of (inject_reply result) kept) (table w old.volume)) (sym (harms.device.world told))
       ∙ ap (λ (v : Option Volume). says (text_of (inject_reply result) kept) (table new.device.world v)) (sym harms.volume);
   numbered = λ goes. subst (λ (v : Option Volume). numbered_on v new.device numbers) (sym harms.volume) (moved_numbers old.volume old.device new.device numbers numbered);
-  opened = λ goes. omega (arith, ap opened_on harms.volume);
+  used = λ goes. omega (arith, ap used_on harms.volume);
   cause = harm_causes (takes_itself line) harms.device;
 }
 

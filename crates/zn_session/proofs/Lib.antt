@@ -1,6 +1,7 @@
 pub mod ReplyLaws
 pub mod Numbers
 pub mod LineSteps
+pub mod Tickets
 pub mod Answering
 pub mod Listings
 pub mod Opens

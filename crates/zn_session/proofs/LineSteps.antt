@@ -22,7 +22,7 @@ use Rattle.zn_session.specs.SessionState.{table_of, number_at, IsNumbered}
 use Rattle.zn_session.proofs.Numbers.{on_number, on_free}
 
 -- the answer of a call without keys, told
-tells_unkeyed : {X : Type 0} (told : X → List ℕ) (m : Mounted) (numbers : List (Option Handle)) (plainly answer : Answer X) → plainly ≡ unkeyed_answer answer
+pub tells_unkeyed : {X : Type 0} (told : X → List ℕ) (m : Mounted) (numbers : List (Option Handle)) (plainly answer : Answer X) → plainly ≡ unkeyed_answer answer
     → tells told (table_of m numbers) plainly ≡ says (reply_text told refusal_name answer.reply) (table_of answer.mounted numbers)
 tells_unkeyed told m numbers plainly answer same = ap (tells told (table_of m numbers)) same
 
@@ -32,7 +32,7 @@ live_of {handle = None} is = absurd (cc is)
 live_of {handle = Some live} is = (live, refl)
 
 -- a call on the handle of a number
-call_step : {X : Type 0} (told : X → List ℕ) (call : Mounted → Handle → Answer X) (m : Mounted) (numbers : List (Option Handle)) (n : ℕ) (h : Handle) → number_at numbers n ≡ Some h → call (unkeyed m) (unkeyed_handle h) ≡ unkeyed_answer (call m h)
+pub call_step : {X : Type 0} (told : X → List ℕ) (call : Mounted → Handle → Answer X) (m : Mounted) (numbers : List (Option Handle)) (n : ℕ) (h : Handle) → number_at numbers n ≡ Some h → call (unkeyed m) (unkeyed_handle h) ≡ unkeyed_answer (call m h)
     → handle_then (table_of m numbers) n (λ m' h'. tells told (table_of m numbers) (call m' h')) ≡ says (reply_text told refusal_name (call m h).reply) (table_of (call m h).mounted numbers)
 call_step told call m numbers n h e same = on_number m numbers n h (λ m' h'. tells told (table_of m numbers) (call m' h')) e ∙ tells_unkeyed told m numbers (call (unkeyed m) (unkeyed_handle h)) (call m h) same
 

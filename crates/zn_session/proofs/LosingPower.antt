@@ -45,7 +45,7 @@ use Rattle.zn_model.specs.SuperBlock.{SuperBlock}
 use Rattle.zn_model.specs.Volume.{Volume, Mounted}
 use Rattle.zn_model.specs.ZoneFiles.{listing_of}
 use Rattle.zn_lines.specs.Lines as lines
-use Rattle.zn_lines.specs.ReplyTexts.{error_text, ok_text, refusal_name, format_error_name, mount_error_name, inject_error_name, reply_text, plain, number_text, read_text, stat_text, list_text, attr_text}
+use Rattle.zn_lines.specs.ReplyTexts.{error_text, ok_text, refusal_name, format_error_name, mount_error_name, inject_error_name, reply_text, plain, number_text, read_text, done_text, stat_text, list_text, attr_text}
 use Rattle.zn_lines.specs.Session as session
 use Rattle.zn_lines.specs.Session.{line_now, line_step, says, says_error, tells, opens, open_line, close_line, freed_by, is_busy, unmounts, formats, format_with, unless_mounted, label_in, uuid_in, features_in, mounts, mount_with, options_in, injects, zones_told, names_in, dropped_unless}
 use Rattle.zn_lines.specs.Table.{Table, handle_of, with_mounted, without_number}
@@ -315,9 +315,9 @@ now_tells given table (lines.ReadFrom n offset len) on = mounted_tells table on 
 now_tells given table (lines.WriteTo n offset runs) on = mounted_tells table on table.volume _ (λ m. handle_tells table on (handle_of table n) _ (λ h. answer_tells plain table _ (loss_is_told.writes m h offset (lines.bytes_of runs))))
 now_tells given table (lines.TruncateTo n size) on = mounted_tells table on table.volume _ (λ m. handle_tells table on (handle_of table n) _ (λ h. answer_tells plain table _ (loss_is_told.truncates m h size)))
 now_tells given table (lines.SyncFile n) on = mounted_tells table on table.volume _ (λ m. handle_tells table on (handle_of table n) _ (λ h. answer_tells plain table _ (loss_is_told.syncs m h)))
-now_tells given table (lines.SubmitTo n offset runs) on = mounted_tells table on table.volume _ (λ m. handle_tells table on (handle_of table n) _ (λ h. stays lost_reply _ table on))
-now_tells given table lines.Complete on = mounted_tells table on table.volume _ (λ m. stays lost_reply _ table on)
-now_tells given table lines.Reap on = mounted_tells table on table.volume _ (λ m. stays lost_reply _ table on)
+now_tells given table (lines.SubmitTo n offset runs) on = mounted_tells table on table.volume _ (λ m. handle_tells table on (handle_of table n) _ (λ h. answer_tells number_text table _ (loss_is_told.submits m h offset (lines.bytes_of runs))))
+now_tells given table lines.Complete on = mounted_tells table on table.volume _ (λ m. answer_tells number_text table _ (loss_is_told.completes m))
+now_tells given table lines.Reap on = mounted_tells table on table.volume _ (λ m. answer_tells done_text table _ (loss_is_told.reaps m))
 now_tells given table (lines.StatOf path) on = mounted_tells table on table.volume _ (λ m. answer_tells (stat_text path) table _ (loss_is_told.stat m path))
 now_tells given table (lines.ListOf path) on = mounted_tells table on table.volume _ (λ m. answer_tells (λ n. list_text (names_in (listing_of m.volume.inodes.layout path))) table _ (loss_is_told.entries m path))
 now_tells given table lines.Attributes on = mounted_tells table on table.volume _ (λ m. answer_tells attr_text table _ (loss_is_told.attr m))

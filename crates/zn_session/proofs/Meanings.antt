@@ -111,7 +111,7 @@ called line reply kept entropy old new numbers0 numbers call answers = record {
   writable = answers.writable;
   step = λ goes. line_but entropy (table_of (mounted_in old) numbers0) kept.bytes line call ∙ ap (but entropy) (answers.step goes);
   numbered = answers.numbered;
-  opened = answers.opened;
+  used = answers.used;
   cause = call_causes (takes_itself (line_meant line)) answers.cause;
 }
 
@@ -126,7 +126,7 @@ leaves_all line reply kept entropy held numbers writable told does numbered unsp
       writable = writable;
       step = λ goes. does;
       numbered = λ goes. numbered;
-      opened = λ goes. omega arith;
+      used = λ goes. omega arith;
       cause = subst Causes (sym told) (still_causes (takes_itself line) held.device unspoilt);
     }
 

@@ -24,7 +24,7 @@ use Rattle.zn_volume.specs.Means.{spoils}
 use Rattle.zn_volume.specs.Mounts.{IsMounted, MountCause}
 use Rattle.zn_volume.specs.VolumeState.{VolumeState, mounted_in}
 use Rattle.zn_session.specs.Replies.{Kept}
-use Rattle.zn_session.specs.SessionState.{HeldState, bare_held, mounted_held, table_by, unkeyed_numbers, IsNumbered, AreNumbered}
+use Rattle.zn_session.specs.SessionState.{HeldState, bare_held, mounted_held, table_by, unkeyed_numbers, IsNumbered, AreNumbered, used_by}
 use Rattle.zn_session.specs.Steps.{LineCause, Means, Dropped}
 use Rattle.zn_session.specs.declared.replies.Reply.TheVariants.{NotMounted, AlreadyMounted, OptionRefused, MountRefused, Refused, Done}
 use Rattle.zn_session.proofs.LineCauses.{mount_causes, mount_goes, mount_not_starved, mounted_causes, refused_causes, still_causes}
@@ -33,9 +33,9 @@ use Rattle.zn_session.proofs.Numbers.{fresh_numbered, none_unkeyed}
 
 -- ---- a volume that was just mounted
 
-fresh_opened : (t : Truth) (super_block : SuperBlock) (opts : MountOpts) → (fresh_volume t super_block opts).handles.opened ≡ 0
+fresh_unused : (t : Truth) (super_block : SuperBlock) (opts : MountOpts) → used_by (fresh_volume t super_block opts) ≡ 0
 unfolding fresh_volume
-fresh_opened t super_block opts = refl
+fresh_unused t super_block opts = refl
 
 -- what holds of each volume that a mount makes holds of this one
 of_mounted : (P : Volume → Type 0) {opts : MountOpts} {old : DeviceState} {new : VolumeState} (is : IsMounted opts old new) → IfOk (mount_call is.given old.world opts).reply P → P new.volume
@@ -64,7 +64,7 @@ module _ (text : Option (List ℕ)) (kept : Kept) (entropy : List ℕ) (numbers 
     mounted new is =
         let keyless = of_mounted (λ v. unkeyed_volume v ≡ v) is (mount_unkeyed is.given d.world opts) in
         let once = of_mounted IsUsedOnce is (mount_once is.given d.world opts) in
-        let unopened = of_mounted (λ v. v.handles.opened ≡ 0) is (mount_fresh (λ v. v.handles.opened ≡ 0) fresh_opened is.given d.world opts) in
+        let unused = of_mounted (λ v. used_by v ≡ 0) is (mount_fresh (λ v. used_by v ≡ 0) fresh_unused is.given d.world opts) in
         record {
           given = is.given;
           writable = tt;
@@ -72,7 +72,7 @@ module _ (text : Option (List ℕ)) (kept : Kept) (entropy : List ℕ) (numbers 
               does_by is.given _ is.answer
               ∙ ap (λ (v : Volume). let table : Table = record (table_by entropy (mounted_held new) numbers) { volume = Some v } in says ok_text table) (sym keyless);
           numbered = λ goes. fresh_numbered (mounted_in new) numbers none once;
-          opened = λ goes. omega (arith, unopened);
+          used = λ goes. omega (arith, unused);
           cause = mounted_causes unspoilt is;
         }
 
@@ -82,7 +82,7 @@ module _ (text : Option (List ℕ)) (kept : Kept) (entropy : List ℕ) (numbers 
       writable = tt;
       step = λ goes. does_by cause.given _ (cause.answer (mount_goes cause goes) (mount_not_starved why goes));
       numbered = λ goes. none;
-      opened = λ goes. omega arith;
+      used = λ goes. omega arith;
       cause = mount_causes cause;
     }
 
@@ -142,7 +142,7 @@ umounted kept entropy seen after numbers free unspoilt is same none =
           ∙ ap (λ (all : List (Option Handle)). let table : Table = record (table_by entropy (bare_held seen.device) numbers) { numbers = all } in says ok_text table) (sym (keyless_none free none))
           ∙ ap (λ (d : DeviceState). says ok_text (table_by entropy (bare_held d) free)) (sym same);
       numbered = λ goes. none;
-      opened = λ goes. omega arith;
+      used = λ goes. omega arith;
       cause = subst Causes (sym same) (still_causes false seen.device unspoilt);
     }
 
@@ -153,7 +153,7 @@ still_on kept entropy seen numbers why unspoilt numbered is = record {
   writable = tt;
   step = λ goes. umount_by [] entropy seen numbers (Some why) is;
   numbered = λ goes. numbered;
-  opened = λ goes. omega arith;
+  used = λ goes. omega arith;
   cause = refused_causes false why seen.device (mild_refusal (mounted_in seen) why is) unspoilt;
 }
 
@@ -174,7 +174,7 @@ kept held numbers numbered powered = record {
   device = refl;
   table = λ entropy. ap (λ b. dropped_unless b (table_by entropy held numbers)) (sym powered);
   numbered = numbered;
-  opened = omega arith;
+  used = omega arith;
 }
 
 -- without it the volume goes
@@ -186,7 +186,7 @@ dropped seen after numbers free lost same none = record {
       ∙ ap (λ (all : List (Option Handle)). let table : Table = record (table_by entropy (bare_held seen.device) free) { numbers = all } in table) (keyless_none free none)
       ∙ ap (λ b. dropped_unless b (table_by entropy (mounted_held seen) numbers)) (sym lost);
   numbered = none;
-  opened = omega arith;
+  used = omega arith;
 }
 
 -- and where there is none, nothing does
@@ -197,5 +197,5 @@ bare_still d numbers lost none = record {
       ap (λ (all : List (Option Handle)). let table : Table = record (table_by entropy (bare_held d) numbers) { numbers = all } in table) (keyless_none numbers none)
       ∙ ap (λ b. dropped_unless b (table_by entropy (bare_held d) numbers)) (sym lost);
   numbered = none;
-  opened = omega arith;
+  used = omega arith;
 }

@@ -14,13 +14,14 @@ use Rattle.zn_volume.specs.Causes.{CallCause}
 use Rattle.zn_volume.specs.Means.{key_in}
 use Rattle.zn_volume.specs.VolumeState.{VolumeState, mounted_in}
 use Rattle.zn_session.specs.Replies.{Kept}
-use Rattle.zn_session.specs.SessionState.{table_of, number_at, IsNumbered}
+use Rattle.zn_session.specs.SessionState.{table_of, number_at, IsNumbered, used_by}
 use Rattle.zn_session.specs.Steps.{Answers, IsReplyTo, is_busy_answer}
 use Rattle.zn_session.specs.declared.replies.Reply.{Reply}
 use Rattle.zn_session.specs.declared.replies.Reply.TheVariants.{Refused, Done}
-use Rattle.zn_session.proofs.Answering.{no_more, tells_numbers, tells_value, tells_refused}
+use Rattle.zn_session.proofs.Answering.{no_more, gave_none, tells_numbers, tells_value, tells_refused}
 use Rattle.zn_session.proofs.Closes.{close_closed, close_step, numbered_close, numbered_busy, numbers_after}
 use Rattle.zn_session.proofs.Opens.{Made, open_opens, open_step, numbers_by, numbered_open}
+use Rattle.zn_session.proofs.Tickets.{open_gave, close_gave}
 
 -- ---- opens
 
@@ -32,7 +33,7 @@ module _ (old new : VolumeState) (numbers : List (Option Handle)) (n : ℕ) (pat
       let reply : Ok h ≡ answer.reply = replies cause.spoilt in
       let made : Made old.volume.handles h answer.mounted.volume.handles = subst (λ (r : Result Handle Refusal). MatchResult r (λ k. Made old.volume.handles k answer.mounted.volume.handles) (λ refusal. answer.mounted.volume.handles ≡ old.volume.handles)) (sym reply) (open_opens (mounted_in old) h.key path mode who) in
       let does = open_step kept.bytes (mounted_in old) numbers n h.key path mode who free ∙ ap (λ (r : Result Handle Refusal). says (reply_text (λ k. ok_text) refusal_name answer.reply) (table_of answer.mounted (numbers_by r numbers n))) (sym reply) in
-      tells_numbers {told = λ (k : Handle). ok_text} answer (slice_set numbers n (Some h)) (λ _. does) (λ _. reply) mounts (λ _. numbered_open (mounted_in old) answer.mounted numbers n h below is made (open_once (mounted_in old) h.key path mode who is.once)) (λ _. omega (arith, made.counted)) cause (tells_value tt refl refl)
+      tells_numbers {told = λ (k : Handle). ok_text} answer (slice_set numbers n (Some h)) (λ _. does) (λ _. reply) mounts (λ _. numbered_open (mounted_in old) answer.mounted numbers n h below is made (open_once (mounted_in old) h.key path mode who is.once)) (λ _. omega (arith, made.counted, open_gave (mounted_in old) h.key path mode who)) cause (tells_value tt refl refl)
 
   pub refused_answers : (refusal : Refusal) → (new.device.spoilt ≡ false → Err refusal ≡ (open_call (mounted_in old) (key_in (Err refusal)) path mode who).reply) → (new.device.spoilt ≡ false → mounted_in new ≡ (open_call (mounted_in old) (key_in (Err refusal)) path mode who).mounted)
       → CallCause {X = Handle} (Err refusal) old.device new.device → Answers (OpenFile n path mode who) (Refused refusal) kept old new numbers numbers
@@ -42,7 +43,7 @@ module _ (old new : VolumeState) (numbers : List (Option Handle)) (n : ℕ) (pat
       let does : new.device.spoilt ≡ false → line_now kept.bytes (table_of (mounted_in old) numbers) (OpenFile n path mode who) ≡ says (reply_text (λ k. ok_text) refusal_name answer.reply) (table_of answer.mounted numbers) =
       λ unspoilt. open_step kept.bytes (mounted_in old) numbers n 0 path mode who free ∙ ap (λ (r : Result Handle Refusal). says (reply_text (λ k. ok_text) refusal_name answer.reply) (table_of answer.mounted (numbers_by r numbers n))) (sym (replies unspoilt)) in
       tells_numbers {told = λ (k : Handle). ok_text} answer numbers does replies mounts
-      (λ unspoilt. numbered_busy (mounted_in old) answer.mounted numbers is (stays (sym (replies unspoilt))) (open_once (mounted_in old) 0 path mode who is.once)) (λ unspoilt. no_more (stays (sym (replies unspoilt)))) cause (tells_refused refusal kept)
+      (λ unspoilt. numbered_busy (mounted_in old) answer.mounted numbers is (stays (sym (replies unspoilt))) (open_once (mounted_in old) 0 path mode who is.once)) (λ unspoilt. no_more (mounted_in old) answer.mounted (stays (sym (replies unspoilt))) (gave_none (mounted_in old) answer.mounted (open_gave (mounted_in old) 0 path mode who))) cause (tells_refused refusal kept)
 
 -- ---- closes
 
@@ -54,15 +55,15 @@ module _ (old new : VolumeState) (numbers : List (Option Handle)) (n : ℕ) (h :
       close_step kept.bytes (mounted_in old) numbers n h is e
       ∙ ap (λ (b : Bool). says (reply_text plain refusal_name (close_call (mounted_in old) h).reply) (table_of (close_call (mounted_in old) h).mounted (numbers_after b numbers n))) (ap is_busy_answer (sym (replies unspoilt)) ∙ is_busy)
 
-  opened : (close_call (mounted_in old) h).mounted.volume.handles.opened ≤ old.volume.handles.opened + 1
-  opened = omega (arith, (close_closed (mounted_in old) h).opened)
+  used : used_by (close_call (mounted_in old) h).mounted.volume ≤ used_by old.volume + 1
+  used = omega (arith, (close_closed (mounted_in old) h).opened, close_gave (mounted_in old) h)
 
   pub closed_answers : n < length numbers → is_busy_answer result ≡ false → Answers (CloseFile n) reply kept old new numbers (slice_set numbers n None)
   closed_answers below free =
       tells_numbers (close_call (mounted_in old) h) (slice_set numbers n None) (does false free) replies mounts
-      (λ _. numbered_close (mounted_in old) (close_call (mounted_in old) h).mounted numbers n h below is e (close_closed (mounted_in old) h) refl (close_once (mounted_in old) h is.once)) (λ _. opened) cause tells
+      (λ _. numbered_close (mounted_in old) (close_call (mounted_in old) h).mounted numbers n h below is e (close_closed (mounted_in old) h) refl (close_once (mounted_in old) h is.once)) (λ _. used) cause tells
 
   pub busy_answers : is_busy_answer result ≡ true → Answers (CloseFile n) reply kept old new numbers numbers
   busy_answers busy =
       tells_numbers (close_call (mounted_in old) h) numbers (does true busy) replies mounts
-      (λ unspoilt. numbered_busy (mounted_in old) (close_call (mounted_in old) h).mounted numbers is ((close_closed (mounted_in old) h).busy (ap is_busy_answer (sym (replies unspoilt)) ∙ busy)) (close_once (mounted_in old) h is.once)) (λ _. opened) cause tells
+      (λ unspoilt. numbered_busy (mounted_in old) (close_call (mounted_in old) h).mounted numbers is ((close_closed (mounted_in old) h).busy (ap is_busy_answer (sym (replies unspoilt)) ∙ busy)) (close_once (mounted_in old) h is.once)) (λ _. used) cause tells

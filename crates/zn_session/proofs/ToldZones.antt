@@ -34,7 +34,7 @@ use Rattle.zn_volume.specs.MountSteps.{no_info}
 use Rattle.zn_volume.specs.Reports.{as_told, as_reported, Reports}
 use Rattle.zn_volume.specs.VolumeState.{VolumeState, mounted_in}
 use Rattle.zn_session.specs.Replies.{Kept, told_line, told_zones, text_of}
-use Rattle.zn_session.specs.SessionState.{HeldState, mounted_held, table_by, unkeyed_numbers, numbered_on, AreNumbered, opened_on}
+use Rattle.zn_session.specs.SessionState.{HeldState, mounted_held, table_by, unkeyed_numbers, numbered_on, AreNumbered, used_on}
 use Rattle.zn_session.specs.Steps.{ends, Means}
 use Rattle.zn_session.specs.Told.{told_of, ReportsOn}
 use Rattle.zn_session.specs.declared.replies.Reply.TheVariants.{Refused, Zones as ToldZones}
@@ -119,8 +119,8 @@ module _ {result : Result (Unit {0}) Refusal} {infos : List ZoneInfo} {old new :
   pub still_numbered : AreNumbered new numbers
   still_numbered = subst (λ (volume : Option Volume). numbered_on volume new.device numbers) (sym (reports.volume told)) (moved_numbers old.volume old.device new.device numbers numbered)
 
-  pub as_opened : opened_on new.volume ≡ opened_on old.volume
-  as_opened = ap opened_on (reports.volume told)
+  pub as_used : used_on new.volume ≡ used_on old.volume
+  as_used = ap used_on (reports.volume told)
 
 -- a report that is done
 pub zones_done : (infos : List ZoneInfo) (kept : Kept) (entropy : List ℕ) (old new : HeldState) (numbers : List (Option Handle)) → ReportsOn (Ok tt) infos old new → kept.zones ≡ map (told_of new) (enumerate_from 0 infos) → length kept.zones < 2 ^ 32
@@ -136,7 +136,7 @@ zones_done infos kept entropy old new numbers reports shown few numbered =
           zones_now (table_by entropy old numbers) ∙ ap (λ t. says t (record (table_by entropy old numbers) { world = issued.world })) text
           ∙ ap (λ (table : Table). says (told_zones kept.zones) table) (table_after entropy numbers reports numbered refl);
       numbered = λ goes. still_numbered entropy numbers reports numbered refl;
-      opened = λ goes. omega (arith, as_opened entropy numbers reports numbered refl);
+      used = λ goes. omega (arith, as_used entropy numbers reports numbered refl);
       cause = call_causes false reports.device.cause;
     }
   where
@@ -166,7 +166,7 @@ zones_refused refusal infos kept entropy old new numbers reports numbered =
           ∙ ap (λ t. says t (record (table_by entropy old numbers) { world = issued.world })) (refused_text issued.reply (reports.device.reply goes))
           ∙ ap (λ (table : Table). says (error_text (refusal_name refusal)) table) (table_after entropy numbers reports numbered goes);
       numbered = λ goes. still_numbered entropy numbers reports numbered goes;
-      opened = λ goes. omega (arith, as_opened entropy numbers reports numbered goes);
+      used = λ goes. omega (arith, as_used entropy numbers reports numbered goes);
       cause = call_causes false reports.device.cause;
     }
   where

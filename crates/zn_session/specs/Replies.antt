@@ -5,14 +5,14 @@ use Rattle.std.specs.List.{flat_map, enumerate_from}
 use Rattle.zn_model.specs.declared.limits.TheConstants.{MOST_BYTES}
 use Rattle.zn_base.specs.Texts.{◌⧺◌}
 use Rattle.zn_lines.specs.ReplyTexts.{refusal_name, mount_error_name, format_error_name, option_error_name, inject_error_name}
-use Rattle.zn_lines.specs.ReplyTexts.{not_built, error_text, ok_text, number_text, read_text, stat_text, list_text, attr_text}
+use Rattle.zn_lines.specs.ReplyTexts.{error_text, ok_text, number_text, read_text, done_text, stat_text, list_text, attr_text}
 use Rattle.zn_truth.specs.Inject.{InjectReply}
 use Rattle.zn_model.specs.ZoneFiles.{names_to}
 use Rattle.zn_model.specs.ZoneTexts.{zone_text}
 use Rattle.zn_session.specs.declared.replies.Reply.{Reply}
-use Rattle.zn_session.specs.declared.replies.Reply.TheVariants.{NotMounted, AlreadyMounted, HandleInUse, BadLabel, BadUuid, NotBuilt}
+use Rattle.zn_session.specs.declared.replies.Reply.TheVariants.{NotMounted, AlreadyMounted, HandleInUse, BadLabel, BadUuid}
 use Rattle.zn_session.specs.declared.replies.Reply.TheVariants.{Refused, OptionRefused, FormatRefused, MountRefused}
-use Rattle.zn_session.specs.declared.replies.Reply.TheVariants.{InjectRefused, Done, Number, Bytes}
+use Rattle.zn_session.specs.declared.replies.Reply.TheVariants.{InjectRefused, Done, Number, Bytes, Reaped}
 use Rattle.zn_session.specs.declared.replies.Reply.TheVariants.{Told, Directories, Names, Attributes, Zones}
 use Rattle.zn_session.specs.declared.room.Room.{Room}
 use Rattle.zn_session.specs.declared.room.ZoneTold.{ZoneTold}
@@ -56,7 +56,6 @@ text_of AlreadyMounted kept = error_text (codes "already-mounted")
 text_of HandleInUse kept = error_text (codes "handle-in-use")
 text_of BadLabel kept = error_text (codes "bad-label")
 text_of BadUuid kept = error_text (codes "bad-uuid")
-text_of NotBuilt kept = error_text not_built
 text_of (Refused refusal) kept = error_text (refusal_name refusal)
 text_of (OptionRefused error) kept = error_text (option_error_name error)
 text_of (FormatRefused error) kept = error_text (format_error_name error)
@@ -65,6 +64,7 @@ text_of (InjectRefused error) kept = error_text (inject_error_name error)
 text_of Done kept = ok_text
 text_of (Number n) kept = number_text n
 text_of (Bytes n) kept = read_text (take n kept.bytes)
+text_of (Reaped done) kept = done_text done
 text_of (Told path stat) kept = stat_text path.now stat
 text_of (Directories cnv seq) kept = list_text (directory_names cnv seq)
 text_of (Names n) kept = list_text (names_to n)

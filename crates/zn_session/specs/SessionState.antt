@@ -1,5 +1,5 @@
 -- What a clause sees of a session. (own)
-use Rattle.std.specs.Prelude.{◌≡◌, ◌≤◌, ℕ, Bool, true, false, List, [], length, map}
+use Rattle.std.specs.Prelude.{◌≡◌, ◌≤◌, ◌+◌, ℕ, Bool, true, false, List, [], length, map}
 use Rattle.std.specs.Prelude.{Option, Some, None, option_map, slice_index_or, IsSome}
 use Rattle.zn_truth.specs.Truth.{Truth}
 use Rattle.zn_truth.specs.World.{calm, geometry_of}
@@ -122,10 +122,14 @@ numbered_on (Some volume) device numbers = IsNumbered (record { world = device.w
 abbrev pub AreNumbered : HeldState → List (Option Handle) → Type 0
 AreNumbered held numbers = numbered_on held.volume held.device numbers
 
--- how many handles were opened on a volume
-abbrev pub opened_on : Option Volume → ℕ
-opened_on None = 0
-opened_on (Some volume) = volume.handles.opened
+-- how many handles were opened on a volume, and tickets given: it numbers no two of them alike
+abbrev pub used_by : Volume → ℕ
+used_by volume = volume.handles.opened + volume.queue.last_ticket
+
+-- the same of what is mounted, if something is
+abbrev pub used_on : Option Volume → ℕ
+used_on None = 0
+used_on (Some volume) = used_by volume
 
 -- how many zones the device has
 abbrev pub zones_in : HeldState → ℕ
@@ -138,10 +142,11 @@ pub record HasRoom (count : ℕ) (room : Room) : Type 0 where
   pub zones : length room.zones.items ≡ count
 
 -- The device is there, with room for the bytes of one call and a report of its zones. As long as lines may come, it is
--- not spoilt, the numbers are those of the volume's handles, and no more handles were opened than lines came.
+-- not spoilt, the numbers are those of the volume's handles, and no more handles were opened and tickets given than
+-- lines came.
 pub record IsSession (session : SessionState) (is_there : Bool) (room : Room) : Type 0 where
   pub there : is_there ≡ true
   pub has_room : HasRoom (zones_in session.held) room
   pub unspoilt : session.over ≡ false → session.held.device.spoilt ≡ false
   pub numbered : session.over ≡ false → AreNumbered session.held session.numbers
-  pub few : session.over ≡ false → opened_on session.held.volume ≤ session.steps
+  pub few : session.over ≡ false → used_on session.held.volume ≤ session.steps

@@ -30,7 +30,7 @@ use Rattle.zn_volume.specs.Causes.{CallCause}
 use Rattle.zn_volume.specs.Means.{spoils, without_value}
 use Rattle.zn_volume.specs.VolumeState.{VolumeState, mounted_in}
 use Rattle.zn_session.specs.Replies.{Kept, text_of, IsWritable}
-use Rattle.zn_session.specs.SessionState.{HeldState, SessionState, table_of, table_by, table_in, IsNumbered, AreNumbered, opened_on}
+use Rattle.zn_session.specs.SessionState.{HeldState, SessionState, table_of, table_by, table_in, IsNumbered, AreNumbered, used_by, used_on}
 use Rattle.zn_session.specs.declared.replies.Reply.{Reply}
 use Rattle.zn_session.specs.declared.replies.Reply.TheVariants.{Refused, FormatRefused, MountRefused, InjectRefused}
 
@@ -82,14 +82,15 @@ IsCall PowerOn = ⊥
 IsCall _ = Unit {0}
 
 -- A line that is a call on a mounted volume has the reply and leaves the table that are its own, unless it ends the run,
--- and then the reply has its cause. At most one handle is opened. What a read gave is at the front of the bytes kept.
+-- and then the reply has its cause. At most one handle is opened or one ticket given. What a read gave is at the front of
+-- the bytes kept.
 pub record Answers (line : Line) (reply : Reply) (kept : Kept) (old new : VolumeState)
     (numbers0 numbers : List (Option Handle)) : Type 0 where
   pub writable : IsWritable reply kept
   pub step : ends reply ≡ false → line_now kept.bytes (table_of (mounted_in old) numbers0) line
       ≡ says (text_of reply kept) (table_of (mounted_in new) numbers)
   pub numbered : ends reply ≡ false → IsNumbered (mounted_in new) numbers
-  pub opened : ends reply ≡ false → new.volume.handles.opened ≤ old.volume.handles.opened + 1
+  pub used : ends reply ≡ false → used_by new.volume ≤ used_by old.volume + 1
   pub cause : CallCause (told_by reply) old.device new.device
 
 -- What a line's answer says of the device. It is spoilt only where the answer ends the run; then `Broken` comes only
@@ -112,7 +113,7 @@ abbrev pub LineMeaning : Type 0
 LineMeaning = List ℕ → Table → Line → Stepped
 
 -- A line has the reply and leaves the table that it means, unless it ends the run, and then the reply has its cause.
--- At most one handle is opened.
+-- At most one handle is opened or one ticket given.
 pub record Means (means : LineMeaning) (line : Line) (reply : Reply) (kept : Kept) (entropy : List ℕ)
     (old new : HeldState) (numbers0 numbers : List (Option Handle)) : Type 0 where
   -- what the line's read gave, which counts only where the device doesn't tell its bytes
@@ -121,7 +122,7 @@ pub record Means (means : LineMeaning) (line : Line) (reply : Reply) (kept : Kep
   pub step : ends reply ≡ false → means given (table_by entropy old numbers0) line
       ≡ says (text_of reply kept) (table_by entropy new numbers)
   pub numbered : ends reply ≡ false → AreNumbered new numbers
-  pub opened : ends reply ≡ false → opened_on new.volume ≤ opened_on old.volume + 1
+  pub used : ends reply ≡ false → used_on new.volume ≤ used_on old.volume + 1
   pub cause : LineCause (takes_itself line) (told_by reply) old.device new.device
 
 -- What harms the device that is held: its answer and its state are as meant, or have their causes, and a volume on it
@@ -136,7 +137,7 @@ pub record Dropped (old new : HeldState) (numbers0 numbers : List (Option Handle
   pub table : (entropy : List ℕ) → table_by entropy new numbers
       ≡ dropped_unless old.device.world.powered (table_by entropy old numbers0)
   pub numbered : AreNumbered new numbers
-  pub opened : opened_on new.volume ≤ opened_on old.volume
+  pub used : used_on new.volume ≤ used_on old.volume
 
 -- a reply tells what a call on the volume answered
 pub record IsReplyTo {X : Type 0} (told : X → List ℕ) (result : Result X Refusal)

@@ -3,12 +3,11 @@ ghost use Rattle.std.specs.Prelude.{◌≡◌, ◌≤◌, ◌<◌, ◌^◌, ℕ,
 ghost use Rattle.std.specs.Prelude.{false, Option, Some, Ok, IfOk, IsSome, option_map};
 ghost use Rattle.zn_lines.specs.declared.limits.TheConstants.{LAST_NUMBER};
 ghost use Rattle.zn_model.specs.declared.limits.TheConstants.{MOST_BYTES};
-ghost use Rattle.zn_base.specs.Runs.{Run};
 ghost use Rattle.zn_lines.specs.Grammar.{data_of};
 ghost use Rattle.zn_model.specs.Reading.{read_call};
 ghost use Rattle.zn_lines.specs.Lines.{bytes_of, OpenFile, CloseFile, SizeOf, ReadFrom, WriteTo, TruncateTo, SyncFile};
-ghost use Rattle.zn_lines.specs.Lines.{SubmitTo, StatOf, ListOf, Attributes, Changes};
-ghost use Rattle.zn_lines.specs.ReplyTexts.{plain, number_text, read_text, list_text};
+ghost use Rattle.zn_lines.specs.Lines.{SubmitTo, Complete, Reap, StatOf, ListOf, Attributes, Changes};
+ghost use Rattle.zn_lines.specs.ReplyTexts.{plain, number_text, read_text, done_text, list_text};
 ghost use Rattle.zn_lines.specs.Session.{names_in};
 ghost use Rattle.zn_model.specs.ZoneFiles.{listing_of};
 ghost use Rattle.zn_script.specs.Data.{CallFits};
@@ -18,13 +17,13 @@ ghost use Rattle.zn_volume.specs.Means.{as_read};
 ghost use Rattle.zn_volume.specs.VolumeState.{mounted_in};
 ghost use Rattle.zn_session.specs.Replies.{Kept, kept_as};
 ghost use Rattle.zn_session.specs.declared.room.ZoneTold.{ZoneTold as TheZoneTold};
-ghost use Rattle.zn_session.specs.SessionState.{IsNumbered, number_at};
+ghost use Rattle.zn_session.specs.SessionState.{IsNumbered, number_at, used_by};
 ghost use Rattle.zn_session.specs.Steps.{IsCall, Answers, IsReplyTo, is_busy_answer};
 
 use crate::replies::Reply;
 use zn_device::Zoned;
 use zn_lines::Change;
-use zn_model::{Handle, Mode, Refusal, Who};
+use zn_model::{Done, Handle, Mode, Refusal, Who};
 use zn_script::{Line, expand};
 use zn_volume::Volume;
 
@@ -62,6 +61,16 @@ fn bytes(answer: Result<u64, Refusal>) -> Reply<'static>
 {
     match answer {
         Ok(count) => Reply::Bytes(count as usize),
+        Err(refusal) => Reply::Refused(refusal),
+    }
+}
+
+/// How the request that was reaped ended.
+fn reaped(answer: Result<Done, Refusal>) -> Reply<'static>
+    ensures { (kept : Kept) → IsReplyTo done_text answer result kept }
+{
+    match answer {
+        Ok(done) => Reply::Reaped(done),
         Err(refusal) => Reply::Refused(refusal),
     }
 }
@@ -283,22 +292,50 @@ fn sync<D: Zoned + Drop>(
     }
 }
 
-/// A request through the handle of a number. Requests can't be queued yet.
+/// Queues a write of the bytes that a word of data stands for.
 fn submit<D: Zoned + Drop>(
-    volume: &Volume<D>,
+    volume: &mut Volume<D>,
     numbers: &[Option<Handle>],
     number: u32,
+    offset: u64,
+    word: &[u8],
+    buffer: &mut Vec<u8>,
 ) -> Reply<'static>
     requires number { number ≤ LAST_NUMBER }
-    requires unspoilt { volume.now.device.spoilt ≡ false }
-    requires numbered { IsNumbered (mounted_in volume.now) numbers.now }
-    ensures { (kept : Kept) (offset : ℕ) (runs : List Run) → Answers (SubmitTo number offset runs) result kept
-        volume.now volume.now numbers.now numbers.now }
+    requires data { IsSome (data_of word.now) }
+    requires room { length buffer.old.items ≡ MOST_BYTES }
+    requires unspoilt { volume.old.device.spoilt ≡ false }
+    requires few { volume.old.volume.queue.last_ticket < 2 ^ 63 }
+    requires numbered { IsNumbered (mounted_in volume.old) numbers.now }
+    ensures answers { (zones : List TheZoneTold) → Answers (SubmitTo number offset (runs_meant word.now)) result
+        (kept_as buffer.new.items zones) volume.old volume.new numbers.now numbers.now }
+    ensures room { length buffer.new.items ≡ MOST_BYTES }
 {
     match handle_of(numbers, number) {
         None => Reply::Refused(Refusal::BadHandle),
-        Some(_) => Reply::NotBuilt,
+        Some(h) => {
+            let len = put_data(word, buffer);
+            self::number(volume.submit(h, offset, &buffer[..len]))
+        }
     }
+}
+
+/// Carries out the oldest request.
+fn complete<D: Zoned + Drop>(volume: &mut Volume<D>) -> Reply<'static>
+    requires unspoilt { volume.old.device.spoilt ≡ false }
+    ensures { (kept : Kept) (numbers : List (Option Handle)) → IsNumbered (mounted_in volume.old) numbers
+        → Answers Complete result kept volume.old volume.new numbers numbers }
+{
+    number(volume.complete())
+}
+
+/// Takes the outcome of the request that ended first.
+fn reap<D: Zoned + Drop>(volume: &mut Volume<D>) -> Reply<'static>
+    requires unspoilt { volume.old.device.spoilt ≡ false }
+    ensures { (kept : Kept) (numbers : List (Option Handle)) → IsNumbered (mounted_in volume.old) numbers
+        → Answers Reap result kept volume.old volume.new numbers numbers }
+{
+    reaped(volume.reap())
 }
 
 fn stat<'a, D: Zoned + Drop>(volume: &Volume<D>, path: &'a str) -> Reply<'a>
@@ -367,7 +404,7 @@ pub fn answer<'a, D: Zoned + Drop>(
     requires fits { CallFits line.now }
     requires room { length buffer.old.items ≡ MOST_BYTES }
     requires unspoilt { volume.old.device.spoilt ≡ false }
-    requires few { volume.old.volume.handles.opened < 2 ^ 63 }
+    requires few { used_by volume.old.volume < 2 ^ 63 }
     requires numbered { IsNumbered (mounted_in volume.old) numbers.old.items }
     ensures answers { (zones : List TheZoneTold) → Answers (line_meant line.now) result
         (kept_as buffer.new.items zones) volume.old volume.new numbers.old.items numbers.new.items }
@@ -385,9 +422,9 @@ pub fn answer<'a, D: Zoned + Drop>(
         Line::List(path) => list(volume, path),
         Line::Attr => attr(volume),
         Line::Change(change) => self::change(volume, change),
-        Line::Submit(number, _, _) => submit(volume, numbers, number),
-        Line::Complete => Reply::NotBuilt,
-        Line::Reap => Reply::NotBuilt,
+        Line::Submit(number, offset, word) => submit(volume, numbers, number, offset, word, buffer),
+        Line::Complete => complete(volume),
+        Line::Reap => reap(volume),
         // These are no calls.
         Line::Mkfs(_) | Line::Mount(_) | Line::Umount => Reply::AlreadyMounted,
         Line::Zones | Line::Fault(..) | Line::Turn(..) => Reply::AlreadyMounted,

@@ -5,7 +5,8 @@ ghost use Rattle.zn_base.specs.Texts.{◌⧺◌};
 ghost use Rattle.zn_model.specs.declared.answers.FormatError.TheVariants.{BadZone0};
 ghost use Rattle.zn_model.specs.declared.answers.MountError.TheVariants.{NotFormatted};
 ghost use Rattle.zn_lines.specs.ReplyTexts.{mount_error_name, format_error_name, option_error_name, inject_error_name};
-ghost use Rattle.zn_lines.specs.ReplyTexts.{refusal_name, error_text, ok_text, number_text, read_text, stat_text};
+ghost use Rattle.zn_lines.specs.ReplyTexts.{refusal_name, outcome_name, error_text, ok_text, number_text, read_text};
+ghost use Rattle.zn_lines.specs.ReplyTexts.{done_text, stat_text};
 ghost use Rattle.zn_lines.specs.ReplyTexts.{file_text, directory_text, octal_text, name_line, list_text, attr_text};
 ghost use Rattle.std.specs.Fmt.{decimal};
 ghost use Rattle.zn_model.specs.declared.limits.TheConstants.{MOST_BYTES};
@@ -15,7 +16,7 @@ ghost use Rattle.zn_session.specs.Replies.{directory_names};
 
 use crate::room::{Room, ZoneTold};
 use zn_base::{Part, Sink, WriteFault, write_all, write_parts, write_runs};
-use zn_model::{Attr, FormatError, MountError, OptError, Refusal, Stat, Why};
+use zn_model::{Attr, Done, FormatError, MountError, OptError, Outcome, Refusal, Stat, Why};
 use zn_report::zone_line;
 use zn_truth::{Cond, InjectError, ZoneNo};
 
@@ -32,8 +33,6 @@ pub enum Reply<'a> {
     BadLabel,
     /// The identifier of a format is none.
     BadUuid,
-    /// What the line asks for can't be carried out yet.
-    NotBuilt,
     /// A call on the volume was refused.
     Refused(Refusal),
     /// The options of a format or of a mount are faulty.
@@ -46,6 +45,8 @@ pub enum Reply<'a> {
     Number(u64),
     /// So many bytes at the front of those that the session keeps.
     Bytes(usize),
+    /// How the request that was reaped ended.
+    Reaped(Done),
     /// What is told of the file or directory of a path.
     Told(&'a str, Stat),
     /// The directories that exist: `cnv` and `seq`.
@@ -225,6 +226,41 @@ fn write_bytes<K: Sink>(sink: &mut K, bytes: &[u8]) -> Result<(), WriteFault>
         Ok(()) => write_all(sink, b"\n"),
         Err(fault) => Err(fault),
     }
+}
+
+/// The name of how a request ended.
+fn outcome_text(outcome: Outcome) -> &'static [u8]
+    ensures { result.now ≡ outcome_name outcome }
+{
+    match outcome {
+        Outcome::Ok => b"ok",
+        Outcome::IoError => b"io-error",
+        Outcome::TooManyActive => b"too-many-active",
+        Outcome::TooManyOpen => b"too-many-open",
+    }
+}
+
+/// Writes the ticket of a request, and the name of how it ended.
+fn write_ended<K: Sink>(sink: &mut K, done: &Done, name: &[u8]) -> Result<(), WriteFault>
+    requires { name.now ≡ outcome_name done.now.outcome }
+    ensures { Writes result (done_text done.now) (K.state sink.old) (K.state sink.new) }
+{
+    write_parts(
+        sink,
+        &[
+            Part::Text(b"ok "),
+            Part::Number(done.ticket),
+            Part::Text(b" "),
+            Part::Text(name),
+            Part::Text(b"\n"),
+        ],
+    )
+}
+
+fn write_done<K: Sink>(sink: &mut K, done: &Done) -> Result<(), WriteFault>
+    ensures { Writes result (done_text done.now) (K.state sink.old) (K.state sink.new) }
+{
+    write_ended(sink, done, outcome_text(done.outcome))
 }
 
 /// An octal digit of a mode, from its bits upward.
@@ -415,7 +451,6 @@ pub fn write_reply<K: Sink>(sink: &mut K, reply: &Reply<'_>, room: &Room) -> Res
         Reply::HandleInUse => write_error(sink, b"handle-in-use"),
         Reply::BadLabel => write_error(sink, b"bad-label"),
         Reply::BadUuid => write_error(sink, b"bad-uuid"),
-        Reply::NotBuilt => write_error(sink, b"not-built"),
         Reply::Refused(refusal) => write_error(sink, refusal_text(*refusal)),
         Reply::OptionRefused(error) => write_option_error(sink, error),
         Reply::FormatRefused(error) => write_format_error(sink, error),
@@ -424,6 +459,7 @@ pub fn write_reply<K: Sink>(sink: &mut K, reply: &Reply<'_>, room: &Room) -> Res
         Reply::Done => write_all(sink, b"ok\n"),
         Reply::Number(number) => write_count(sink, *number),
         Reply::Bytes(count) => write_bytes(sink, &room.bytes[..*count]),
+        Reply::Reaped(done) => write_done(sink, done),
         Reply::Told(path, stat) => write_stat(sink, path.as_bytes(), stat),
         Reply::Directories(cnv, seq) => write_directories(sink, *cnv, *seq),
         Reply::Names(count) => write_names(sink, *count),

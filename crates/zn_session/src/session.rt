@@ -10,7 +10,7 @@ ghost use Rattle.zn_script.specs.Data.{CallFits};
 ghost use Rattle.zn_script.specs.Meant.{line_meant};
 ghost use Rattle.zn_session.specs.Replies.{kept_as, kept_in, text_of, IsWritable};
 ghost use Rattle.zn_session.specs.declared.room.ZoneTold.{ZoneTold as TheZoneTold};
-ghost use Rattle.zn_session.specs.SessionState.{held_by, begun, machine_of, zones_in, AreNumbered, HasRoom, opened_on};
+ghost use Rattle.zn_session.specs.SessionState.{held_by, begun, machine_of, zones_in, AreNumbered, HasRoom, used_on};
 ghost use Rattle.zn_session.specs.Steps.{IsCall, Means, Performed, ends, is_starved, ended_by, told_by, stops, Said};
 
 use crate::calls;
@@ -45,7 +45,7 @@ pub struct Session<D: Injects + Drop> {
     entropy: [u8; 16],
     /// Whether no further line may come.
     is_over: bool,
-    /// How many lines it was given. No more handles were opened.
+    /// How many lines it was given. No more handles were opened and tickets given.
     steps: u64,
 }
 
@@ -156,7 +156,7 @@ fn call<'a, D: Zoned + Drop>(
     requires room { length buffer.old.items ≡ MOST_BYTES }
     requires there { IsSome held.old }
     requires unspoilt { (held_by D.state held.old).device.spoilt ≡ false }
-    requires few { opened_on (held_by D.state held.old).volume < 2 ^ 63 }
+    requires few { used_on (held_by D.state held.old).volume < 2 ^ 63 }
     requires numbered { AreNumbered (held_by D.state held.old) numbers.old.items }
     ensures means { (zones : List TheZoneTold) (entropy : List ℕ) → Means line_now (line_meant line.now) result
         (kept_as buffer.new.items zones) entropy
@@ -184,7 +184,7 @@ fn answer<'a, D: Injects + Drop>(
     requires room { HasRoom (zones_in (held_by D.state held.old)) room.old }
     requires there { IsSome held.old }
     requires unspoilt { (held_by D.state held.old).device.spoilt ≡ false }
-    requires few { opened_on (held_by D.state held.old).volume < 2 ^ 63 }
+    requires few { used_on (held_by D.state held.old).volume < 2 ^ 63 }
     requires numbered { AreNumbered (held_by D.state held.old) numbers.old.items }
     ensures means { Means line_now (line_meant line.now) result (kept_in room.new) entropy.now
         (held_by D.state held.old) (held_by D.state held.new) numbers.old.items numbers.new.items }
@@ -220,7 +220,7 @@ fn carry_out<'a, D: Injects + Drop>(
     requires room { HasRoom (zones_in (held_by D.state held.old)) room.old }
     requires there { IsSome held.old }
     requires unspoilt { (held_by D.state held.old).device.spoilt ≡ false }
-    requires few { opened_on (held_by D.state held.old).volume < 2 ^ 63 }
+    requires few { used_on (held_by D.state held.old).volume < 2 ^ 63 }
     requires numbered { AreNumbered (held_by D.state held.old) numbers.old.items }
     ensures means { Means line_step (line_meant line.now) result (kept_in room.new) entropy.now
         (held_by D.state held.old) (held_by D.state held.new) numbers.old.items numbers.new.items }

@@ -534,7 +534,7 @@ fn zones_are_told(rt: HostRuntime) -> Result<(), Fail> {
 }
 
 /// The power goes inside a write, of which one block is left, filled. Nothing is mounted when it comes back, and no
-/// number has a handle. Requests can't be queued yet.
+/// number has a handle. A request writes the block behind it.
 #[test]
 fn the_power_goes_inside_a_write(rt: HostRuntime) -> Result<(), Fail> {
     let alloc = rt.alloc();
@@ -549,11 +549,13 @@ fn the_power_goes_inside_a_write(rt: HostRuntime) -> Result<(), Fail> {
                   size 0\n\
                   mount\n\
                   size 0\n\
-                  open 0 seq/0 r\n\
+                  open 0 seq/0 rw\n\
                   read 0 0 8192\n\
-                  submit 0 0 61*4096\n\
+                  submit 0 4096 61*4096\n\
                   submit 1 0 61*4096\n\
                   complete\n\
+                  complete\n\
+                  reap\n\
                   reap\n";
     let told = "ok\n\
                 ok\n\
@@ -568,11 +570,28 @@ fn the_power_goes_inside_a_write(rt: HostRuntime) -> Result<(), Fail> {
                 error bad-handle\n\
                 ok\n\
                 ok 4096 ee*4096\n\
-                error not-built\n\
+                ok 1\n\
                 error bad-handle\n\
-                error not-built\n\
-                error not-built\n";
+                ok 1\n\
+                error nothing-queued\n\
+                ok 1 ok\n\
+                error nothing-done\n";
     tells(&rt, alloc, device(alloc, Kind::Conventional)?, script, told)
+}
+
+/// A request for which no zone may be active ends so, and the one behind it for its failure.
+#[test]
+fn a_request_meets_a_limit(rt: HostRuntime) -> Result<(), Fail> {
+    let alloc = rt.alloc();
+    tells(
+        &rt,
+        alloc,
+        limited_device(alloc, Kind::Conventional, 0, 1)?,
+        "mkfs\nmount\nopen 0 seq/0 rw\nopen 1 seq/1 rw\nsubmit 0 0 61*4096\nsubmit 1 0 62*4096\nsubmit 1 4096 63*4096\n\
+         complete\ncomplete\ncomplete\nreap\nreap\nreap\nsize 1\n",
+        "ok\nok\nok\nok\nok 1\nok 2\nok 3\n\
+         ok 1\nok 2\nerror nothing-queued\nok 1 ok\nok 2 too-many-active\nok 3 io-error\nok 0\n",
+    )
 }
 
 /// A device that doesn't tell its bytes is formatted, mounted and read, and fails.

@@ -1,13 +1,10 @@
-use Rattle.std.proofs.Common.{refl, sym, subst, List, Option}
+use Rattle.std.proofs.Common.{sym, subst, List, Option}
 use Rattle.zn_model.specs.declared.handles.Handle.{Handle}
 use Rattle.zn_lines.specs.Lines.{SizeOf, ReadFrom, WriteTo, TruncateTo, SyncFile, SubmitTo}
 use Rattle.zn_script.specs.Meant.{line_meant, runs_meant}
 use Rattle.zn_script.specs.declared.Line.{Line}
 use Rattle.zn_session.specs.Replies.{kept_as}
 use Rattle.zn_session.specs.Steps.{Answers}
-use Rattle.zn_session.specs.declared.replies.Reply.TheVariants.{NotBuilt}
-use Rattle.zn_session.proofs.Answering.{still}
-use Rattle.zn_session.proofs.Requests.{complete_step, reap_step}
 use Rattle.zn_session.proofs.calls.answer.Goals as goal
 
 pub returns-in-Open-clause-answers : goal.returns-in-Open-clause-answers
@@ -44,10 +41,10 @@ pub returns-in-Write-clause-answers : goal.returns-in-Write-clause-answers
 returns-in-Write-clause-answers g c = λ zones. subst (λ (line : Line). Answers (line_meant line) c.write.result (kept_as c.write.new.buffer.items zones) c.args.volume.now c.write.new.volume c.args.numbers.now.items c.args.numbers.now.items) (sym c.in-Write.is) (subst (λ (numbers : List (Option Handle)). Answers (WriteTo c.in-Write.number c.in-Write.offset (runs_meant c.in-Write.word.now)) c.write.result (kept_as c.write.new.buffer.items zones) c.args.volume.now c.write.new.volume numbers numbers) c.deref-in-Write.ensures.value (c.write.ensures.answers zones))
 
 pub returns-in-Submit-clause-answers : goal.returns-in-Submit-clause-answers
-returns-in-Submit-clause-answers g c = λ zones. subst (λ (line : Line). Answers (line_meant line) c.submit.result (kept_as c.args.buffer.now.items zones) c.args.volume.now c.args.volume.now c.args.numbers.now.items c.args.numbers.now.items) (sym c.in-Submit.is) (subst (λ (numbers : List (Option Handle)). Answers (SubmitTo c.in-Submit.number c.in-Submit.field-1 (runs_meant c.in-Submit.field-2.now)) c.submit.result (kept_as c.args.buffer.now.items zones) c.args.volume.now c.args.volume.now numbers numbers) c.deref-in-Submit.ensures.value (c.submit.ensures _ _ _))
+returns-in-Submit-clause-answers g c = λ zones. subst (λ (line : Line). Answers (line_meant line) c.submit.result (kept_as c.submit.new.buffer.items zones) c.args.volume.now c.submit.new.volume c.args.numbers.now.items c.args.numbers.now.items) (sym c.in-Submit.is) (subst (λ (numbers : List (Option Handle)). Answers (SubmitTo c.in-Submit.number c.in-Submit.offset (runs_meant c.in-Submit.word.now)) c.submit.result (kept_as c.submit.new.buffer.items zones) c.args.volume.now c.submit.new.volume numbers numbers) c.deref-in-Submit.ensures.value (c.submit.ensures.answers zones))
 
 pub returns-in-Complete-clause-answers : goal.returns-in-Complete-clause-answers
-returns-in-Complete-clause-answers g c = λ zones. subst (λ (line : Line). Answers (line_meant line) NotBuilt (kept_as c.args.buffer.now.items zones) c.args.volume.now c.args.volume.now c.args.numbers.now.items c.args.numbers.now.items) (sym c.in-Complete.is) (still tt (complete_step _ _ _) refl c.requires.numbered c.requires.unspoilt)
+returns-in-Complete-clause-answers g c = λ zones. subst (λ (line : Line). Answers (line_meant line) c.complete.result (kept_as c.args.buffer.now.items zones) c.args.volume.now c.complete.new.volume c.args.numbers.now.items c.args.numbers.now.items) (sym c.in-Complete.is) (c.complete.ensures _ _ c.requires.numbered)
 
 pub returns-in-Reap-clause-answers : goal.returns-in-Reap-clause-answers
-returns-in-Reap-clause-answers g c = λ zones. subst (λ (line : Line). Answers (line_meant line) NotBuilt (kept_as c.args.buffer.now.items zones) c.args.volume.now c.args.volume.now c.args.numbers.now.items c.args.numbers.now.items) (sym c.in-Reap.is) (still tt (reap_step _ _ _) refl c.requires.numbered c.requires.unspoilt)
+returns-in-Reap-clause-answers g c = λ zones. subst (λ (line : Line). Answers (line_meant line) c.reap.result (kept_as c.args.buffer.now.items zones) c.args.volume.now c.reap.new.volume c.args.numbers.now.items c.args.numbers.now.items) (sym c.in-Reap.is) (c.reap.ensures _ _ c.requires.numbered)

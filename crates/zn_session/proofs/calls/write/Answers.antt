@@ -6,6 +6,7 @@ use Rattle.zn_script.specs.Meant.{runs_meant}
 use Rattle.zn_volume.specs.VolumeState.{mounted_in}
 use Rattle.zn_session.proofs.Answering.{still, tells_call}
 use Rattle.zn_session.proofs.LineSteps.{write_step, write_free}
+use Rattle.zn_session.proofs.Tickets.{write_gave}
 use Rattle.zn_session.proofs.calls.write.Goals as goal
 
 pub returns-in-None-clause-answers : goal.returns-in-None-clause-answers
@@ -17,4 +18,4 @@ returns-in-Some-clause-answers g c = λ zones.
     tells_call (write_call (mounted_in c.args.volume.now) c.in-Some.h c.args.offset (bytes_of (runs_meant c.args.word.now))) (write_step _ _ _ _ _ _ _ c.requires.numbered (sym c.in-Some.ensures))
     (λ unspoilt. c.write.ensures.reply unspoilt ∙ ap (λ written. (write_call (mounted_in c.args.volume.now) c.in-Some.h c.args.offset written).reply) bytes)
     (λ unspoilt. c.write.ensures.mounted unspoilt ∙ ap (λ written. (write_call (mounted_in c.args.volume.now) c.in-Some.h c.args.offset written).mounted) bytes)
-    (write_keeps _ _ _ _) c.requires.numbered c.write.ensures.cause (c.done.ensures _)
+    (write_keeps _ _ _ _) (write_gave _ _ _ _) c.requires.numbered c.write.ensures.cause (c.done.ensures _)
