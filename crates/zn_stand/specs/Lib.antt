@@ -5,3 +5,9 @@ pub mod Calls
 pub mod History
 pub mod Laws
 pub mod Cases
+pub mod ZoneNames
+pub mod DeviceText
+pub mod Standing
+pub mod AtRest
+pub mod DeviceLaws
+pub mod DeviceCases
