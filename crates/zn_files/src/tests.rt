@@ -214,27 +214,73 @@ fn leaves_images(rt: HostRuntime) -> Result<(), Fail> {
     Ok(())
 }
 
+/// A call on a file, or on the directory.
+#[derive(Clone, Copy)]
+enum Ask {
+    Names,
+    Len(&'static str),
+    Part(&'static str, u64),
+    Make(Step),
+}
+
+/// Four bytes of a file, as one number.
+fn part_of(rt: &impl Abort, files: &mut MemFiles, name: &str, at: u64) -> Result<u64, FileError> {
+    let mut part = [0; 4];
+    let len = files.len(name)?;
+    assert!(rt; 4 <= len);
+    assert!(rt; at <= len - 4);
+    files.read_at(name, at, &mut part)?;
+    Ok(u64::from(u32::from_be_bytes(part)))
+}
+
+/// What a call answers: how many names or bytes there are, four bytes that were read as one number, or 0.
+fn asked(
+    rt: &(impl Abort + Alloc),
+    files: &mut MemFiles,
+    ask: Ask,
+) -> Result<Result<u64, FileError>, Fail> {
+    Ok(match ask {
+        Ask::Names => files.names().map(|names| names.count() as u64),
+        Ask::Len(name) => files.len(name),
+        Ask::Part(name, at) => part_of(rt, files, name, at),
+        Ask::Make(step) => make(rt, files, step)?.map(|()| 0),
+    })
+}
+
+/// Each of these calls, one after another, answers so.
+fn ask_all(
+    rt: &(impl Abort + Alloc),
+    files: &mut MemFiles,
+    rows: &[(Ask, Result<u64, FileError>)],
+) -> Result<(), Fail> {
+    for (ask, want) in rows {
+        assert_eq!(rt; asked(rt, files, *ask)?, *want);
+    }
+    Ok(())
+}
+
 #[test]
 fn fails_by_the_list(rt: HostRuntime) -> Result<(), Fail> {
     let mut files = MemFiles::new(rt.alloc());
     files.fail(FileCall::Create, 2)?;
     files.fail(FileCall::Len, 1)?;
     files.fail(FileCall::Names, 1)?;
-    assert_eq!(rt; files.create("b"), Ok(()));
-    assert_eq!(rt; files.create("a"), Err(FileError::Fault));
-    assert_eq!(rt; files.create("b"), Err(FileError::Exists));
-    assert_eq!(rt; files.create("a"), Ok(()));
-    assert_eq!(rt; files.len("c"), Err(FileError::Fault));
-    assert_eq!(rt; files.len("c"), Err(FileError::Missing));
-    assert_eq!(rt; files.len("a"), Ok(0));
-    assert_eq!(rt; files.sync("c"), Err(FileError::Missing));
-    assert!(rt; files.names().is_err());
-    match files.names() {
-        Ok(names) => {
-            assert_eq!(rt; names.count(), 2);
-        }
-        Err(_) => assert!(rt; false),
-    }
+    ask_all(
+        &rt,
+        &mut files,
+        &[
+            (Ask::Make(Step::Create("b")), Ok(0)),
+            (Ask::Make(Step::Create("a")), Err(FileError::Fault)),
+            (Ask::Make(Step::Create("b")), Err(FileError::Exists)),
+            (Ask::Make(Step::Create("a")), Ok(0)),
+            (Ask::Len("c"), Err(FileError::Fault)),
+            (Ask::Len("c"), Err(FileError::Missing)),
+            (Ask::Len("a"), Ok(0)),
+            (Ask::Make(Step::Sync("c")), Err(FileError::Missing)),
+            (Ask::Names, Err(FileError::Fault)),
+            (Ask::Names, Ok(2)),
+        ],
+    )?;
     assert_eq!(rt; files.faults(), 3);
     assert_eq!(rt; files.calls(), 10);
     Ok(())
@@ -294,31 +340,25 @@ fn text_in(
     Ok(sink)
 }
 
-/// Four bytes of a file.
-fn part_of(rt: &impl Abort, files: &mut MemFiles, name: &str, at: u64) -> [u8; 4] {
-    let mut part = [0; 4];
-    let Ok(len) = files.len(name) else {
-        panic!(rt; "no length");
-    };
-    assert!(rt; 4 <= len);
-    assert!(rt; at <= len - 4);
-    assert!(rt; files.read_at(name, at, &mut part).is_ok());
-    part
-}
-
 #[test]
 fn reads_what_was_written(rt: HostRuntime) -> Result<(), Fail> {
     let mut files = MemFiles::new(rt.alloc());
-    assert_eq!(rt; files.create("a"), Ok(()));
-    assert_eq!(rt; files.len("a"), Ok(0));
-    assert_eq!(rt; write(&rt, &mut files, "a", 0, b"01234567"), Ok(()));
-    assert_eq!(rt; files.len("a"), Ok(8));
-    assert_eq!(rt; write(&rt, &mut files, "a", 6, b"abcd"), Ok(()));
-    assert_eq!(rt; files.len("a"), Ok(10));
-    assert_eq!(rt; &part_of(&rt, &mut files, "a", 4)[..], &b"45ab"[..]);
-    assert_eq!(rt; files.set_len("a", 2), Ok(()));
-    assert_eq!(rt; files.set_len("a", 4), Ok(()));
-    assert_eq!(rt; &part_of(&rt, &mut files, "a", 0)[..], &b"01\0\0"[..]);
+    ask_all(
+        &rt,
+        &mut files,
+        &[
+            (Ask::Make(Step::Create("a")), Ok(0)),
+            (Ask::Len("a"), Ok(0)),
+            (Ask::Make(Step::Write("a", 0, 0x61, 8)), Ok(0)),
+            (Ask::Len("a"), Ok(8)),
+            (Ask::Make(Step::Write("a", 6, 0x62, 4)), Ok(0)),
+            (Ask::Len("a"), Ok(10)),
+            (Ask::Part("a", 4), Ok(0x61_61_62_62)),
+            (Ask::Make(Step::SetLen("a", 2)), Ok(0)),
+            (Ask::Make(Step::SetLen("a", 4)), Ok(0)),
+            (Ask::Part("a", 0), Ok(0x61_61_00_00)),
+        ],
+    )?;
     assert_eq!(rt; files.faults(), 0);
     Ok(())
 }
