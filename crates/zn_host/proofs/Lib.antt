@@ -1,1 +1,2 @@
 pub mod AdapterLaws
+pub mod HostLaws

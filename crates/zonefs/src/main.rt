@@ -11,8 +11,8 @@ use std::io::{ErrorKind, Write};
 use std::process::ExitCode;
 use std::random::RandomSource;
 use std::{env, io};
-use zn_host::{ReaderSource, WriterSink};
 use zn_cli::zonefs_main;
+use zn_host::{ReaderSource, WriterSink};
 use zn_run::Status;
 
 /// The words of the command line after the program's name.
