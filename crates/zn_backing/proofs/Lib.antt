@@ -1,0 +1,9 @@
+pub mod ZoneNaming
+pub mod TextReading
+pub mod Stepping
+pub mod Listings
+pub mod Looping
+pub mod Looking
+pub mod Finding
+pub mod Counting
+pub mod Assembling

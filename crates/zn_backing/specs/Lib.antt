@@ -1,0 +1,6 @@
+pub mod Failures
+pub mod Listing
+pub mod Steps
+pub mod Loops
+pub mod Looks
+pub mod Actives
