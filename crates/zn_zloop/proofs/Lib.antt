@@ -1,0 +1,14 @@
+pub mod Serving
+pub mod Backs
+pub mod Sight
+pub mod ZoneNaming
+pub mod Frames
+pub mod Putting
+pub mod Managing
+pub mod Writing
+pub mod Flushing
+pub mod Looking
+pub mod Commanding
+pub mod Standing
+pub mod Leaving
+pub mod Lost

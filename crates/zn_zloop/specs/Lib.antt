@@ -1,0 +1,14 @@
+pub mod Served
+pub mod Backing
+pub mod Kept
+pub mod Seen
+pub mod Holding
+pub mod Following
+pub mod Managed
+pub mod Written
+pub mod Flushed
+pub mod Telling
+pub mod Looked
+pub mod Framing
+pub mod Left
+pub mod Losing
