@@ -7,3 +7,5 @@ pub mod Looking
 pub mod Finding
 pub mod Counting
 pub mod Assembling
+pub mod Making
+pub mod Creating

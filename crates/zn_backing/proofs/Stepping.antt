@@ -30,7 +30,7 @@ steps_done call x y old new same called = record {
 }
 
 -- a call that isn't refused, and isn't done
-refused_not : (call : Call) (old : FilesState) (e : FileError) → ((d : Directory) → directory old ≡ Some d → refusal call d ≡ None) → ((d : Directory) → directory old ≡ Some d → Some e ≡ refusal call d) → is_told old ≡ false
+pub refused_not : (call : Call) (old : FilesState) (e : FileError) → ((d : Directory) → directory old ≡ Some d → refusal call d ≡ None) → ((d : Directory) → directory old ≡ Some d → Some e ≡ refusal call d) → is_told old ≡ false
 refused_not call old e none some = at (directory old) refl
   where
     at : (o : Option Directory) → directory old ≡ o → is_some o ≡ false

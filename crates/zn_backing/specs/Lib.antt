@@ -4,3 +4,5 @@ pub mod Steps
 pub mod Loops
 pub mod Looks
 pub mod Actives
+pub mod Making
+pub mod Creating

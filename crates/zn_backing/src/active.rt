@@ -1,5 +1,6 @@
 // How many zones count toward the limit of active ones.
 ghost use Rattle.std.specs.Prelude.{◌≡◌, ◌≤◌, length};
+ghost use Rattle.zn_truth.specs.declared.limits.TheConstants.{MAX_ZONES};
 ghost use Rattle.zn_backing.specs.Actives.{is_partly, active_from};
 
 use crate::kinds::kind_of;
@@ -17,7 +18,7 @@ fn is_partly(geo: &Geometry, z: ZoneNo, info: &ZoneInfo) -> bool
 
 /// How many zones are active.
 pub fn active_in(geo: &Geometry, infos: &[ZoneInfo]) -> u32
-    requires { length infos.now ≤ 4096 }
+    requires { length infos.now ≤ MAX_ZONES }
     ensures count { result ≡ active_from geo.now 0 infos.now }
 {
     let mut count = 0;
