@@ -101,7 +101,7 @@ caused_by r spoilt s t m n kepts new is no_fault cause = record {
   no_fault = λ answered pending. refl;
 }
 
-told_when : (spoilt : Bool) (o : Option Directory) (m : Machine) (kepts : List Kept) → spoilt ≡ false → truth_told spoilt o m kepts ≡ truth_seen o (facts m) kepts
+pub told_when : (spoilt : Bool) (o : Option Directory) (m : Machine) (kepts : List Kept) → spoilt ≡ false → truth_told spoilt o m kepts ≡ truth_seen o (facts m) kepts
 told_when spoilt o m kepts clear = ap (λ b. truth_told b o m kepts) clear
 
 pub zloop_commanded : (order : Order) (r : Reply) (spoilt : Bool) (s t : FilesState) (m n : Machine) (kepts new : List Kept) (listed more : List ℕ) → IsZloop false (directory s) m kepts listed → spoilt ≡ not (is_answered r) → geometry_in n ≡ geometry_in m

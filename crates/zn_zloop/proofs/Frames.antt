@@ -27,17 +27,17 @@ unfolding zone_name six_digits
 zone_long Conventional z = refl
 zone_long Sequential z = refl
 
-read_only_long : (kind : Kind) (z : ℕ) → length (read_only_name kind z) ≡ 13
+pub read_only_long : (kind : Kind) (z : ℕ) → length (read_only_name kind z) ≡ 13
 unfolding read_only_name zone_name six_digits
 read_only_long Conventional z = refl
 read_only_long Sequential z = refl
 
-offline_long : (kind : Kind) (z : ℕ) → length (offline_name kind z) ≡ 14
+pub offline_long : (kind : Kind) (z : ℕ) → length (offline_name kind z) ≡ 14
 unfolding offline_name zone_name six_digits
 offline_long Conventional z = refl
 offline_long Sequential z = refl
 
-device_long : length device_name ≡ 6
+pub device_long : length device_name ≡ 6
 unfolding device_name
 device_long = refl
 

@@ -12,3 +12,13 @@ pub mod Commanding
 pub mod Standing
 pub mod Leaving
 pub mod Lost
+pub mod Rested
+pub mod Opening
+pub mod Opened
+pub mod Marking
+pub mod Turning
+pub mod Filling
+pub mod Settling
+pub mod Scrubbing
+pub mod Resting
+pub mod Harming

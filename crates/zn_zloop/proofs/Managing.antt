@@ -122,7 +122,7 @@ same_kept held listed z old new d u m is = record {
 cleared_twice : (flags : List Bool) → cleared flags ≡ cleared (cleared flags)
 cleared_twice flags = ap (λ n. replicate n false) (sym (length-replicate (length flags) false))
 
-synced_clean : (mark : Mark) → is_listed (synced_mark mark) ≡ is_listed mark
+pub synced_clean : (mark : Mark) → is_listed (synced_mark mark) ≡ is_listed mark
 synced_clean Clean = refl
 synced_clean Listed = refl
 synced_clean Changed = refl

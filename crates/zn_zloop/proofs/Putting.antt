@@ -80,13 +80,13 @@ map_at (Some d) (Some e) name g old new holds changed each = subst (IsFileAt new
 
 -- ---- what is seen
 
-told_same : (name : Name) (R : Option File → Option File → Type 0) (o e : Option Directory) → ChangedWhereTold name R o e → is_some e ≡ is_some o
+pub told_same : (name : Name) (R : Option File → Option File → Type 0) (o e : Option Directory) → ChangedWhereTold name R o e → is_some e ≡ is_some o
 told_same name R None None changed = refl
 told_same name R None (Some e) changed = absurd changed
 told_same name R (Some d) None changed = absurd changed
 told_same name R (Some d) (Some e) changed = refl
 
-other_bytes : (R : Option File → Option File → Type 0) (o e : Option Directory) (kind : Kind) (z k : ℕ) (zone : ZoneFacts) → ChangedWhereTold (zone_name kind z) R o e → z < 1000000 → k < 1000000 → k ≢ z
+pub other_bytes : (R : Option File → Option File → Type 0) (o e : Option Directory) (kind : Kind) (z k : ℕ) (zone : ZoneFacts) → ChangedWhereTold (zone_name kind z) R o e → z < 1000000 → k < 1000000 → k ≢ z
     → bytes_seen e zone k ≡ bytes_seen o zone k
 other_bytes R None None kind z k zone changed small low apart = refl
 other_bytes R None (Some e) kind z k zone changed small low apart = absurd changed
@@ -153,7 +153,7 @@ holds_put R d e t z zone holds told below few changed file = record {
       ];
 }
 
-told_put : (R : Option File → Option File → Type 0) (o e : Option Directory) (t : Truth) (z : ℕ) (zone : Zone) → HoldsWhereTold o t → t.told ≡ is_some o → z < length t.zones → length t.zones ≤ 1000000
+pub told_put : (R : Option File → Option File → Type 0) (o e : Option Directory) (t : Truth) (z : ℕ) (zone : Zone) → HoldsWhereTold o t → t.told ≡ is_some o → z < length t.zones → length t.zones ≤ 1000000
     → ChangedWhereTold (zone_name zone.kind z) R o e → HoldsAt e (zone_name zone.kind z) zone → HoldsWhereTold e (with_zone t z zone)
 told_put R None None t z zone holds told below few changed file = tt
 told_put R None (Some e) t z zone holds told below few changed file = absurd changed

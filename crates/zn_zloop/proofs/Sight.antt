@@ -107,7 +107,7 @@ done_none : (t : Truth) (order : Order) → refusal t order ≡ None → (done t
 unfolding done
 done_none t order none = ap (λ v. (done_unless v t order).truth) none
 
-facts_of-with_zone : (t : Truth) (z : ℕ) (zone : Zone) → facts_of (with_zone t z zone) ≡ with_facts (facts_of t) z (zone_facts zone)
+pub facts_of-with_zone : (t : Truth) (z : ℕ) (zone : Zone) → facts_of (with_zone t z zone) ≡ with_facts (facts_of t) z (zone_facts zone)
 facts_of-with_zone t z zone = ap (λ zones. let g : Facts = record { shape = t.shape; zones = zones } in g) (map-set zone_facts t.zones z _)
 
 -- an order that is refused

@@ -12,3 +12,6 @@ pub mod Looked
 pub mod Framing
 pub mod Left
 pub mod Losing
+pub mod Opening
+pub mod Turned
+pub mod Settled

@@ -1,13 +1,14 @@
 // Calls on the file of a zone.
-ghost use Rattle.std.specs.Prelude.{◌≡◌, ◌+◌, ◌≤◌, length, take, drop, IsOk};
+ghost use Rattle.std.specs.Prelude.{◌≡◌, ◌+◌, ◌≤◌, length, take, drop, Some, IsOk};
 ghost use Rattle.std.specs.Option.{option_map};
-ghost use Rattle.zn_stand.specs.File.{written, resized, synced};
+ghost use Rattle.zn_stand.specs.File.{created, written, resized, synced};
 ghost use Rattle.zn_files.specs.States.{directory, WhereTold, MayLeaveInside};
 ghost use Rattle.zn_stand.specs.Calls.{SyncFile, SetLength};
 ghost use Rattle.zn_stand.specs.History.{LeavesOnly};
 ghost use Rattle.zn_zloop.specs.Left.{MayLeaveInResize, MayLeaveInFinish};
 ghost use Rattle.zn_zloop.specs.Looked.{Looked};
 ghost use Rattle.zn_zloop.specs.Served.{reply_to, IsThere, Served};
+ghost use Rattle.zn_zloop.specs.Turned.{IsMissing, IsEmptyFile};
 
 use zn_files::{FileError, Files};
 use zn_truth::DevError;
@@ -24,7 +25,6 @@ fn reply_to(answer: Result<(), FileError>) -> Result<(), DevError>
 }
 
 /// Syncs a file.
-
 pub fn sync<F: Files>(files: &mut F, name: &str) -> Result<(), DevError>
     requires there { IsThere (F.state files.old) name.now }
     ensures served { Served name.now (λ o p. p ≡ option_map synced o) result (F.state files.old) (F.state files.new) }
@@ -93,6 +93,24 @@ pub fn finish<F: Files>(files: &mut F, name: &str, len: u64) -> Result<(), DevEr
 {
     sync(files, name)?;
     resize_through(files, name, len)
+}
+
+/// Makes an empty file.
+fn create<F: Files>(files: &mut F, name: &str) -> Result<(), DevError>
+    requires { IsMissing (F.state files.old) name.now }
+    ensures { Served name.now (λ o p. p ≡ Some created) result (F.state files.old) (F.state files.new) }
+{
+    reply_to(files.create(name))
+}
+
+/// Makes an empty file, and syncs it.
+#[tactic(auto, using(crate::proofs::Marking::made_there, crate::proofs::Marking::made_then))]
+pub fn create_through<F: Files>(files: &mut F, name: &str) -> Result<(), DevError>
+    requires { IsMissing (F.state files.old) name.now }
+    ensures { Served name.now IsEmptyFile result (F.state files.old) (F.state files.new) }
+{
+    create(files, name)?;
+    sync(files, name)
 }
 
 /// Reads bytes of a file, as many as fill `out`.

@@ -13,7 +13,7 @@ ghost use Rattle.std.specs.Option.{option_map};
 
 use crate::calls::sync;
 use crate::kept::Kept;
-use crate::names::zone_name;
+use zn_backing::zone_name;
 use zn_files::Files;
 use zn_truth::{DevError, ZoneNo};
 use zn_zone::Zones;

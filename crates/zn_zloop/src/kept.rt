@@ -8,8 +8,9 @@ ghost use Rattle.zn_truth.specs.declared.Kind.TheVariants.{Conventional};
 ghost use Rattle.zn_truth.specs.declared.DevError.TheVariants.{Memory};
 ghost use Rattle.zn_zloop.specs.declared.kept.Mark.TheVariants.{Clean, Changed};
 ghost use Rattle.zn_zloop.specs.Managed.{managed_durable, managed_flags, managed_mark};
+ghost use Rattle.zn_zloop.specs.Turned.{turned_durable, turned_flags};
 
-use zn_truth::{DevError, Kind, ZoneNo, ZoneOp};
+use zn_truth::{Cond, DevError, Kind, ZoneNo, ZoneOp};
 
 /// Whether the file of a zone changed since its last sync.
 #[derive(Clone, Copy, Debug, PartialEq, Eq)]
@@ -92,6 +93,22 @@ impl Kept {
             ZoneOp::Open | ZoneOp::Close => (),
             ZoneOp::Reset => self.rest(0),
             ZoneOp::Finish => self.rest(capacity),
+        }
+    }
+
+    /// The zone turned to a worse condition, and its file was synced: all of so many blocks is durable, or, offline, it
+    /// holds none any more.
+    pub fn turn(&mut self, held: u32, to: Cond)
+        ensures durable { self.new.durable ≡ turned_durable to held }
+        ensures unflushed { self.new.unflushed.items ≡ turned_flags to self.old.unflushed.items }
+        ensures mark { self.new.mark ≡ synced_mark self.old.mark }
+    {
+        match to {
+            Cond::Good | Cond::ReadOnly => self.rest(held),
+            Cond::Offline => {
+                self.unflushed.clear();
+                self.rest(0);
+            }
         }
     }
 

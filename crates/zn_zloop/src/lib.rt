@@ -3,10 +3,14 @@
 
 mod calls;
 mod commands;
+mod fills;
 mod flush;
+mod harm;
 mod kept;
-mod names;
+mod open;
 mod reading;
+mod turn;
 mod zloop;
 
+pub use open::OpenFail;
 pub use zloop::Zloop;
