@@ -61,7 +61,7 @@ none_held : (o : Option (List ℕ)) → is_some o ≡ false → o ≡ None
 none_held None is = refl
 none_held (Some bytes) is = absurd (cc)
 
-pub zone_missing : (d : Directory) (names : List Name) (geo : Geometry) (z : ℕ) → names ≡ keys d → is_among names (zone_name (kind_of geo z) z) ≡ false → zone_fault (bytes_at (contents d)) geo z ≡ Some (NoFile z)
+pub zone_missing : (d : Directory) (names : List Name) (geo : Geometry) (z : ℕ) → names ≡ keys d → is_among names (zone_name (kind_of geo z) z) ≡ false → zone_fault (bytes_at (contents d)) geo z ≡ Some (NoFile (kind_of geo z) z)
 zone_missing d names geo z same among = ap (file_fault geo.shape (kind_of geo z) z) (none_held (bytes_at (contents d) (zone_name (kind_of geo z) z)) (sym (listed_is d names (zone_name (kind_of geo z) z) same) ∙ among))
 
 pub held_file : (d : Directory) (name : Name) (len : ℕ) → IsSome (file_at d name) → ((f : File) → file_at d name ≡ Some f → len ≡ length f.bytes) → (bytes : List ℕ) × (bytes_at (contents d) name ≡ Some bytes) × (len ≡ length bytes)
@@ -71,17 +71,17 @@ held_file d name len some is = at (file_at d name) refl some
     at None there some = absurd (cc)
     at (Some f) there some = (f.bytes, bytes-contents d name ∙ ap (option_map (λ (f : File). f.bytes)) there, is f there)
 
-pub zone_bad : (d : Directory) (geo : Geometry) (z len : ℕ) → IsSome (file_at d (zone_name (kind_of geo z) z)) → ((f : File) → file_at d (zone_name (kind_of geo z) z) ≡ Some f → len ≡ length f.bytes) → is_file_length geo.shape (kind_of geo z) len ≡ false → zone_fault (bytes_at (contents d)) geo z ≡ Some (WrongFile z len)
+pub zone_bad : (d : Directory) (geo : Geometry) (z len : ℕ) → IsSome (file_at d (zone_name (kind_of geo z) z)) → ((f : File) → file_at d (zone_name (kind_of geo z) z) ≡ Some f → len ≡ length f.bytes) → is_file_length geo.shape (kind_of geo z) len ≡ false → zone_fault (bytes_at (contents d)) geo z ≡ Some (WrongFile (kind_of geo z) z len)
 zone_bad d geo z len some is bad =
     let held = held_file d (zone_name (kind_of geo z) z) len some is in
-    ap (file_fault geo.shape (kind_of geo z) z) held.1 ∙ ap (λ n. cond (is_file_length geo.shape (kind_of geo z) n) None (Some (WrongFile z n))) (sym held.2) ∙ ap (λ b. cond b None (Some (WrongFile z len))) bad
+    ap (file_fault geo.shape (kind_of geo z) z) held.1 ∙ ap (λ n. cond (is_file_length geo.shape (kind_of geo z) n) None (Some (WrongFile (kind_of geo z) z n))) (sym held.2) ∙ ap (λ b. cond b None (Some (WrongFile (kind_of geo z) z len))) bad
 
 pub zone_found : (d : Directory) (names : List Name) (geo : Geometry) (z len : ℕ) → names ≡ keys d → IsSome (file_at d (zone_name (kind_of geo z) z)) → ((f : File) → file_at d (zone_name (kind_of geo z) z) ≡ Some f → len ≡ length f.bytes)
     → is_file_length geo.shape (kind_of geo z) len ≡ true → IsZoneFound (contents d) geo z (info_with (cond_listed names (kind_of geo z) z) len)
 zone_found d names geo z len same some is fits =
     let held = held_file d (zone_name (kind_of geo z) z) len some is in
     record {
-      fault = ap (file_fault geo.shape (kind_of geo z) z) held.1 ∙ ap (λ n. cond (is_file_length geo.shape (kind_of geo z) n) None (Some (WrongFile z n))) (sym held.2) ∙ ap (λ b. cond b None (Some (WrongFile z len))) fits;
+      fault = ap (file_fault geo.shape (kind_of geo z) z) held.1 ∙ ap (λ n. cond (is_file_length geo.shape (kind_of geo z) n) None (Some (WrongFile (kind_of geo z) z n))) (sym held.2) ∙ ap (λ b. cond b None (Some (WrongFile (kind_of geo z) z len))) fits;
       told = ap (λ (c : Cond). info_with c len) (cond_is d names geo z same) ∙ ap (info_with (cond_in (bytes_at (contents d)) geo z)) (held.2 ∙ ap (λ o. length (unwrap_or o [])) (sym held.1));
     }
 

@@ -26,8 +26,8 @@ not_made NoMemory = MakingMemory
 abbrev pub cause_of : OpenError → Option Cause
 cause_of NotADevice = Some NoDevice
 cause_of (BadGeometry line) = Some (WrongText line)
-cause_of (MissingFile z) = Some (NoFile z.0)
-cause_of (BadZoneFile z len) = Some (WrongFile z.0 len)
+cause_of (MissingFile kind z) = Some (NoFile kind z.0)
+cause_of (BadZoneFile kind z len) = Some (WrongFile kind z.0 len)
 cause_of (ExtraName name) = Some (OtherName name)
 cause_of (TooManyActive count) = Some (ManyActive count)
 cause_of Fault = None

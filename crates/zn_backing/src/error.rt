@@ -6,7 +6,7 @@ ghost use Rattle.zn_backing.specs.declared.error.CreateError.TheVariants.{Memory
 
 use std::alloc::{AllocError, AllocFailed};
 use zn_files::{FileError, Text};
-use zn_truth::ZoneNo;
+use zn_truth::{Kind, ZoneNo};
 
 /// Why a directory isn't a zoned device. The first cause is told, in this order.
 #[derive(Debug, Drop)]
@@ -16,10 +16,10 @@ pub enum OpenError {
     /// The line of `device` that isn't of its form, from 1 on; 8 is text behind the lines or too much of it, and 0 a
     /// broken limit.
     BadGeometry(u32),
-    /// The zone has no file.
-    MissingFile(ZoneNo),
-    /// The zone's file has this length, in bytes, which doesn't fit.
-    BadZoneFile(ZoneNo, u64),
+    /// The zone of this kind and number has no file.
+    MissingFile(Kind, ZoneNo),
+    /// The file of the zone of this kind and number has this length, in bytes, which doesn't fit.
+    BadZoneFile(Kind, ZoneNo, u64),
     /// The first name that isn't the device's, or a marker that isn't empty.
     ExtraName(Text),
     /// So many zones are partly written, and fewer may be active.

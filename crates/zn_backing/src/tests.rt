@@ -3,7 +3,7 @@ use std::alloc::Global;
 use std::test::Fail;
 use zn_files::{Choice, FileCall, FileError, Files, MemFiles};
 use zn_stand::Geometry;
-use zn_truth::{Cond, Shape, ZoneInfo};
+use zn_truth::{Cond, Kind, Shape, ZoneInfo};
 
 /// A conventional zone and two sequential ones, each of two blocks; one of these may be active.
 const GEO: Geometry = Geometry {
@@ -29,8 +29,8 @@ enum Told {
     Device(Zones),
     NotADevice,
     BadGeometry(u32),
-    MissingFile(u32),
-    BadZoneFile(u32, u64),
+    MissingFile(Kind, u32),
+    BadZoneFile(Kind, u32, u64),
     ExtraName(&'static str),
     TooManyActive(u32),
 }
@@ -54,9 +54,14 @@ fn is_told(answer: &Result<Found, OpenError>, want: Told) -> bool {
         (Ok(found), Told::Device(zones)) => is_device(found, zones),
         (Err(OpenError::NotADevice), Told::NotADevice) => true,
         (Err(OpenError::BadGeometry(line)), Told::BadGeometry(other)) => *line == other,
-        (Err(OpenError::MissingFile(z)), Told::MissingFile(other)) => z.0 == other,
-        (Err(OpenError::BadZoneFile(z, len)), Told::BadZoneFile(other, other_len)) => {
-            z.0 == other && *len == other_len
+        (Err(OpenError::MissingFile(kind, z)), Told::MissingFile(other_kind, other)) => {
+            *kind == other_kind && z.0 == other
+        }
+        (
+            Err(OpenError::BadZoneFile(kind, z, len)),
+            Told::BadZoneFile(other_kind, other, other_len),
+        ) => {
+            *kind == other_kind && z.0 == other && *len == other_len
         }
         (Err(OpenError::ExtraName(name)), Told::ExtraName(other)) => {
             name.as_bytes() == other.as_bytes()
@@ -208,15 +213,15 @@ const ROWS: [(Change, Told); 19] = [
     ),
     (
         Change::Zones([Some(8192), Some(0), None]),
-        Told::MissingFile(2),
+        Told::MissingFile(Kind::Sequential, 2),
     ),
     (
         Change::Zones([Some(4096), Some(0), None]),
-        Told::BadZoneFile(0, 4096),
+        Told::BadZoneFile(Kind::Conventional, 0, 4096),
     ),
     (
         Change::Zones([Some(8192), Some(4097), Some(0)]),
-        Told::BadZoneFile(1, 4097),
+        Told::BadZoneFile(Kind::Sequential, 1, 4097),
     ),
     (
         Change::Zones([Some(8192), Some(4096), Some(4096)]),

@@ -65,11 +65,11 @@ fn zone_info<F: Files>(
     let mut text = [0; 10];
     let name = zone_name(kind, z, &mut text);
     if !contains(names, name) {
-        return Err(OpenError::MissingFile(z));
+        return Err(OpenError::MissingFile(kind, z));
     }
     let len = len_of(files, name)?;
     if !is_file_length(geo.shape, kind, len) {
-        return Err(OpenError::BadZoneFile(z, len));
+        return Err(OpenError::BadZoneFile(kind, z, len));
     }
     Ok(info_with(cond_listed(names, kind, z), len))
 }

@@ -58,13 +58,13 @@ done_last (Ok None) old new n line one some fits reads d =
     let S : SinkState → Type 0 = λ s. Added [] old.sink s in
     given_of []
     (whole_along (read_is [] old.machine.table n line (Ok None) one some fits reads)
-    (record { ends = (refl, refl); last = refl; table = d.table; breaks = d.breaks; replies = subst S (sym d.sink) (added_none old.sink) }))
+    (record { ends = (refl, refl); last = refl; table = d.table; breaks = d.breaks; spoilt = d.spoilt; replies = subst S (sym d.sink) (added_none old.sink) }))
 done_last (Ok (Some l)) old new n line one some fits reads d =
     let reply = (line_step d.given old.machine.table l).text in
     let T : List ℕ → Type 0 = λ text. Added text old.sink new.sink in
     given_of (d.given ∷ [])
     (whole_along (read_is (d.given ∷ []) old.machine.table n line (Ok (Some l)) one some fits reads)
-    (record { ends = (refl, refl); last = refl; table = d.table; breaks = d.breaks; replies = subst T (sym (append-nil reply)) d.reply }))
+    (record { ends = (refl, refl); last = refl; table = d.table; breaks = d.breaks; spoilt = d.spoilt; replies = subst T (sym (append-nil reply)) d.reply }))
 done_last (Err column) old new n line one some fits reads d = absurd d
 
 pub last_done : {old new : State} {line : List ℕ} (n : ℕ) → OneLine line → 0 < length line → length line ≤ 65536 → Stepped done_step (reading_of line) old new → Ran Done End n line old new
@@ -106,10 +106,10 @@ pub none_left : {tail : Tail} (old : State) (n : ℕ) (rest : List ℕ) → OneL
 none_left {tail = tail} old n rest one fits is empty =
     ran_done (given_of []
     (whole_along (tail_is [] tail End old.machine.table n rest one fits is ∙ none_is [] old.machine.table n rest empty)
-    (record { ends = (is, refl); last = refl; table = refl; breaks = refl; replies = added_none old.sink })))
+    (record { ends = (is, refl); last = refl; table = refl; breaks = refl; spoilt = refl; replies = added_none old.sink })))
 
 -- the run ends before the rest
 pub ended_here : {result status : Status} {tail : Tail} {machine : MachineState} {sink sink' : SinkState} (n : ℕ) (rest : List ℕ) (by : Ending) → machine.over ≡ false → EndsBy status tail by
     → ((givens : List (List ℕ)) → transcript_at givens tail machine.table n rest ≡ stop machine.table by) → Closed result status (last_line by) sink sink' → Ran result tail n rest (state_of machine sink) (state_of machine sink')
 ended_here {status = status} {tail = tail} {machine = machine} {sink = sink} n rest by goes_on ends is c =
-    closes (comes_ended status tail by (reached_here (state_of machine sink) n rest goes_on) ends is (record { table = refl; breaks = refl; sink = refl })) c
+    closes (comes_ended status tail by (reached_here (state_of machine sink) n rest goes_on) ends is (record { table = refl; breaks = refl; spoilt = refl; sink = refl })) c

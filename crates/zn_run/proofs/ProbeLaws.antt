@@ -47,14 +47,14 @@ not_mounted table none powered = rw (none, powered) refl
 
 -- the machine after so many lines
 abbrev pub probe : Table → Bool → ℕ → ℕ → MachineState
-probe table over breaks steps = record { table = table; over = over; breaks = breaks; takes_memory = true; steps = steps }
+probe table over breaks steps = record { table = table; over = over; spoilt = false; breaks = breaks; takes_memory = true; steps = steps }
 
 passes : {table : Table} {over : Bool} {breaks steps : ℕ} {sink : SinkState} (line : List ℕ) → reading_of line ≡ Ok None → over ≡ false
     → Stepped Done (reading_of line) (state_of (probe table over breaks steps) sink) (state_of (probe table over breaks (steps + 1)) sink)
 passes {table = table} {over = over} {breaks = breaks} {steps = steps} {sink = sink} line reads goes_on =
     let D : Result (Option Line) ℕ → Type 0 = λ r. DoneBy r (state_of (probe table over breaks steps) sink) (state_of (probe table over breaks (steps + 1)) sink) in
     record {
-      means = record { means = subst D (sym reads) (record { table = refl; breaks = refl; sink = refl }); goes_on = goes_on };
+      means = record { means = subst D (sym reads) (record { table = refl; breaks = refl; spoilt = refl; sink = refl }); goes_on = goes_on };
       counted = refl;
       memory = refl;
     }
@@ -70,7 +70,7 @@ passes_comment line is goes_on = passes line (reads_comment line is) goes_on
 pub refuses : {table : Table} {over : Bool} {breaks steps : ℕ} {sink : SinkState} (line : List ℕ) → line ≡ codes "close" → over ≡ false
     → Stepped (BadLine 6) (reading_of line) (state_of (probe table over breaks steps) sink) (state_of (probe table over breaks (steps + 1)) sink)
 refuses line is goes_on = record {
-  means = record { reads = ap reading_of is ∙ reads_bad; unmoved = record { table = refl; breaks = refl; sink = refl }; goes_on = goes_on };
+  means = record { reads = ap reading_of is ∙ reads_bad; unmoved = record { table = refl; breaks = refl; spoilt = refl; sink = refl }; goes_on = goes_on };
   counted = refl;
   memory = refl;
 }
@@ -89,6 +89,7 @@ answers {table = table} {over = over} {breaks = breaks} {steps = steps} {sink = 
               given = [];
               table = ap (λ (s : Reply). s.table) (sym step);
               breaks = refl;
+              spoilt = refl;
               reply = subst T (ap (λ (s : Reply). s.text) (sym step)) (record { grew = grew; kept = kept });
             });
         goes_on = goes_on;
@@ -110,6 +111,7 @@ is_cut {table = table} {sink = sink} {sink' = sink'} line is none powered toward
         given = [];
         table = ap (λ (s : Reply). s.table) (sym step);
         breaks = refl;
+        spoilt = refl;
         reply = subst T (ap (λ (s : Reply). s.text) (sym step)) (record { toward = toward; risen = risen });
         over = refl;
       };

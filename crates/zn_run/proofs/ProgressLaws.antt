@@ -68,6 +68,7 @@ done_line (Ok None) mid new n line one fits reads d goes_on counted memory = rec
   lines = let W : Table → Type 0 = λ t. WholeLines mid.machine.table n (line ++ 10 ∷ []) [] t (n + 1) in subst W (sym d.table) (lines_passed mid.machine.table n line one fits reads);
   replies = let S : SinkState → Type 0 = λ s. Added [] mid.sink s in subst S (sym d.sink) (added_none mid.sink);
   breaks = d.breaks;
+  spoilt = d.spoilt;
   steps = omega (arith, counted);
   memory = memory;
   goes_on = goes_on;
@@ -77,6 +78,7 @@ done_line (Ok (Some l)) mid new n line one fits reads d goes_on counted memory =
   lines = let W : Table → Type 0 = λ t. WholeLines mid.machine.table n (line ++ 10 ∷ []) (line_step d.given mid.machine.table l).text t (n + 1) in subst W (sym d.table) (lines_read d.given mid.machine.table n l line one fits reads);
   replies = d.reply;
   breaks = d.breaks;
+  spoilt = d.spoilt;
   steps = omega (arith, counted);
   memory = memory;
   goes_on = goes_on;
@@ -107,7 +109,7 @@ halt_long {mid = mid} {script = script} {line = line} {at = at} {len = len} {num
   reached = standing script at p;
   is_fault = tt;
   ends = λ givens. ap (transcript_at givens tail mid.machine.table number) n.is ∙ line_long givens tail mid.machine.table number line (10 ∷ drop (at + (len + 1)) script) n.one long;
-  unmoved = record { table = refl; breaks = refl; sink = refl };
+  unmoved = record { table = refl; breaks = refl; spoilt = refl; sink = refl };
 }
 
 -- a line of the grammar that ended them

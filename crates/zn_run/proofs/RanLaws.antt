@@ -95,6 +95,7 @@ given_behind {tail = tail} {rest = rest} cut p r =
       last = r.whole.last;
       table = r.whole.table;
       breaks = r.whole.breaks ∙ p.breaks;
+      spoilt = r.whole.spoilt ∙ p.spoilt;
       replies = added_then p.replies r.whole.replies;
     }))
 
@@ -155,6 +156,7 @@ comes_ended status tail {old = old} by r ends is unmoved =
       last = refl;
       table = unmoved.table;
       breaks = unmoved.breaks ∙ r.lines.breaks;
+      spoilt = unmoved.spoilt ∙ r.lines.spoilt;
       replies = subst S (sym unmoved.sink) r.lines.replies;
     })))
 

@@ -33,6 +33,7 @@ pub record RanWhole (status : Status) (tail : Tail) (t : Transcript) (line : Lis
   pub last : line ≡ last_line t.ending
   pub table : new.machine.table ≡ t.table
   pub breaks : new.machine.breaks ≡ old.machine.breaks
+  pub spoilt : new.machine.spoilt ≡ old.machine.spoilt
   pub replies : Added t.text old.sink new.sink
 
 -- The replies of all of the script are written. Where the device tells its bytes, nothing is given. Where it doesn't, the

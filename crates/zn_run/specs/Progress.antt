@@ -34,6 +34,7 @@ pub record CarriedOut (old new : State) (first : ℕ) (bytes : List ℕ) (number
   pub lines : WholeLines old.machine.table first bytes out new.machine.table number
   pub replies : Added out old.sink new.sink
   pub breaks : new.machine.breaks ≡ old.machine.breaks
+  pub spoilt : new.machine.spoilt ≡ old.machine.spoilt
   pub steps : new.machine.steps + first ≡ old.machine.steps + number
   pub memory : new.machine.takes_memory ≡ old.machine.takes_memory
   pub goes_on : new.machine.over ≡ false

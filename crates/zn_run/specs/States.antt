@@ -11,6 +11,8 @@ pub record MachineState : Type 0 where
   pub table : Table
   -- whether it carries out no further line
   pub over : Bool
+  -- whether what it works on failed, or lacked memory, so that nothing is known of it
+  pub spoilt : Bool
   -- how often what it works on has failed
   pub breaks : ℕ
   -- whether its lines take memory

@@ -12,6 +12,7 @@ use Rattle.zn_run.specs.States.{State, HasRisen, Added, CutOff}
 pub record Unmoved (old new : State) : Type 0 where
   pub table : new.machine.table ≡ old.machine.table
   pub breaks : new.machine.breaks ≡ old.machine.breaks
+  pub spoilt : new.machine.spoilt ≡ old.machine.spoilt
   pub sink : new.sink ≡ old.sink
 
 -- the line's reply is written, and the table is the one after it
@@ -20,6 +21,7 @@ pub record Answered (line : Line) (old new : State) : Type 0 where
   pub given : List ℕ
   pub table : new.machine.table ≡ (line_step given old.machine.table line).table
   pub breaks : new.machine.breaks ≡ old.machine.breaks
+  pub spoilt : new.machine.spoilt ≡ old.machine.spoilt
   pub reply : Added (line_step given old.machine.table line).text old.sink new.sink
 
 -- an empty line and a comment change nothing, and a line of the grammar is answered
@@ -62,6 +64,7 @@ pub record LineCut (reading : Result (Option Line) ℕ) (old new : State) : Type
   pub given : List ℕ
   pub table : new.machine.table ≡ (line_step given old.machine.table line).table
   pub breaks : new.machine.breaks ≡ old.machine.breaks
+  pub spoilt : new.machine.spoilt ≡ old.machine.spoilt
   pub reply : CutOff (line_step given old.machine.table line).text old.sink new.sink
   pub over : new.machine.over ≡ true
 

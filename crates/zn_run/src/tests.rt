@@ -1,4 +1,4 @@
-ghost use Rattle.std.specs.Prelude.{[], true};
+ghost use Rattle.std.specs.Prelude.{[], true, false};
 ghost use Rattle.zn_lines.specs.Table.{fresh_table};
 
 use crate::{Machine, Status, Step, run};
@@ -25,6 +25,7 @@ impl<R: Abort> Machine for Probe<R> {
         zones = [];
       }) [];
       over = m.is_over;
+      spoilt = false;
       breaks = m.breaks;
       takes_memory = true;
       steps = m.steps;

@@ -60,28 +60,30 @@ ends_dropped line reply kept entropy old mid new numbers0 numbers1 numbers goes 
 -- ---- what a line means
 
 carried : (given : List ℕ) (step : Step) (line : Line) (text : List ℕ) (old new : State) → line_step given old.machine.table line ≡ says text new.machine.table → Said step text old.sink new.sink
-    → new.machine.breaks ≡ old.machine.breaks → new.machine.over ≡ stops step → StepMeans step (Ok (Some line)) old new
-carried given Done line text old new steps said breaks over = record {
+    → new.machine.breaks ≡ old.machine.breaks → new.machine.spoilt ≡ old.machine.spoilt → new.machine.over ≡ stops step → StepMeans step (Ok (Some line)) old new
+carried given Done line text old new steps said breaks spoilt over = record {
   means = record {
     given = given;
     table = sym (ap (λ (s : session.Stepped). s.table) steps);
     breaks = breaks;
+    spoilt = spoilt;
     reply = subst (λ (due : List ℕ). Added due old.sink new.sink) (sym (ap (λ (s : session.Stepped). s.text) steps)) said.means;
   };
   goes_on = over;
 }
-carried given (BadLine column) line text old new steps said breaks over = absurd said.means
-carried given Broken line text old new steps said breaks over = absurd said.means
-carried given SinkFault line text old new steps said breaks over = record {
+carried given (BadLine column) line text old new steps said breaks spoilt over = absurd said.means
+carried given Broken line text old new steps said breaks spoilt over = absurd said.means
+carried given SinkFault line text old new steps said breaks spoilt over = record {
   line = line;
   reads = refl;
   given = given;
   table = sym (ap (λ (s : session.Stepped). s.table) steps);
   breaks = breaks;
+  spoilt = spoilt;
   reply = subst (λ (due : List ℕ). CutOff due old.sink new.sink) (sym (ap (λ (s : session.Stepped). s.text) steps)) said.means;
   over = over;
 }
-carried given Memory line text old new steps said breaks over = absurd said.means
+carried given Memory line text old new steps said breaks spoilt over = absurd said.means
 
 -- ---- the end of a run
 
@@ -123,6 +125,9 @@ module _ (seen : SessionState) (held : HeldState) (numbers : List (Option Handle
   same_breaks : held.device.breaks ≡ seen.held.device.breaks
   same_breaks = ap (λ (d : DeviceState). d.breaks) same_device
 
+  same_spoilt : held.device.spoilt ≡ seen.held.device.spoilt
+  same_spoilt = ap (λ (d : DeviceState). d.spoilt) same_device
+
   same_takes : held.device.takes_memory ≡ seen.held.device.takes_memory
   same_takes = ap (λ (d : DeviceState). d.takes_memory) same_device
 
@@ -146,13 +151,14 @@ module _ (seen : SessionState) (held : HeldState) (numbers : List (Option Handle
     does goes = ap (λ table. line_step means.given table line) (sym same_table) ∙ means.step goes
 
     -- a line whose reply is written, or cut off
-    pub goes_means : (step : Step) (shown : Kept) (over' : Bool) (sink0 sink : SinkState) → ends reply ≡ false → shown ≡ kept → Said step (text_of reply shown) sink0 sink → over' ≡ stops step
+    pub goes_means : (step : Step) (shown : Kept) (over' : Bool) (sink0 sink : SinkState) → held.device.spoilt ≡ false → ends reply ≡ false → shown ≡ kept → Said step (text_of reply shown) sink0 sink → over' ≡ stops step
         → Stepped step (Ok (Some line)) (state_of (machine_of seen) sink0) (state_of (machine_of (after held' numbers' over')) sink)
-    goes_means step shown over' sink0 sink goes same_kept said ended =
+    goes_means step shown over' sink0 sink unspoilt goes same_kept said ended =
         let Says : Kept → Type 0 = λ all. Said step (text_of reply all) sink0 sink in
         counted held' numbers' over' sink0 sink means.cause.memory
         (carried means.given step line (text_of reply kept) (state_of (machine_of seen) sink0) (state_of (machine_of (after held' numbers' over')) sink)
-        (does goes) (subst Says same_kept said) (means.cause.whole goes ∙ same_breaks) ended)
+        (does goes) (subst Says same_kept said) (means.cause.whole goes ∙ same_breaks)
+        (means.cause.unspoilt goes ∙ sym unspoilt ∙ same_spoilt) ended)
 
     module _ (spoiling : ends reply ≡ true) where
       -- over a device whose commands take no memory, where the count of breaks is another one, a break is told

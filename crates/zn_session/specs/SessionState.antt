@@ -95,6 +95,7 @@ abbrev pub machine_of : SessionState → MachineState
 machine_of session = record {
   table = table_in session;
   over = session.over;
+  spoilt = session.held.device.spoilt;
   breaks = session.held.device.breaks;
   takes_memory = session.held.device.takes_memory;
   steps = session.steps;

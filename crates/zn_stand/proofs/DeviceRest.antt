@@ -96,12 +96,12 @@ file_of : (shape : Shape) (kind : Kind) (z : ℕ) (file : Option (List ℕ)) →
 file_of shape kind z None none = absurd (cc)
 file_of shape kind z (Some bytes) none = record { bytes = bytes; is = refl; len = fits (is_file_length shape kind (length bytes)) refl none }
   where
-    fits : (b : Bool) → is_file_length shape kind (length bytes) ≡ b → cond b None (Some (BadZoneFile z (length bytes))) ≡ None → is_file_length shape kind (length bytes) ≡ true
+    fits : (b : Bool) → is_file_length shape kind (length bytes) ≡ b → cond b None (Some (BadZoneFile kind z (length bytes))) ≡ None → is_file_length shape kind (length bytes) ≡ true
     fits true is none = is
     fits false is none = absurd (cc)
 
 file_fits : (shape : Shape) (kind : Kind) (z : ℕ) (bytes : List ℕ) → is_file_length shape kind (length bytes) ≡ true → file_fault shape kind z (Some bytes) ≡ None
-file_fits shape kind z bytes fits = ap (λ b. cond b None (Some (BadZoneFile z (length bytes)))) fits
+file_fits shape kind z bytes fits = ap (λ b. cond b None (Some (BadZoneFile kind z (length bytes)))) fits
 
 zone_file_of : (shape : Shape) (kind : Kind) (cond : Cond) (bytes : List ℕ) → is_file_length shape kind (length bytes) ≡ true → IsZoneFile shape (durable_zone kind cond (bytes_left cond bytes)) (Some bytes)
 zone_file_of shape kind Good bytes fits = record { there = refl; bytes = λ on. refl; len = λ other off is. absurd (cc) }

@@ -17,13 +17,14 @@ use Rattle.zn_stand.specs.DeviceText.{text_read}
 use Rattle.zn_stand.specs.Standing.{is_file_length}
 
 -- Why a directory stands for no device, in the order in which this is told: there is no file `device`; a line of it,
--- by its number, isn't of its form, or, as line 0, a limit is broken; a zone's file is missing, or has a length that
--- doesn't fit; there is another file, or a marker that isn't empty; more zones are partly written than may be active.
+-- by its number, isn't of its form, or, as line 0, a limit is broken; the file of a zone, by its kind and number, is
+-- missing, or has a length that doesn't fit; there is another file, or a marker that isn't empty; more zones are
+-- partly written than may be active.
 pub data Cause : Type 0 where
   NotADevice : Cause
   BadGeometry : ℕ → Cause
-  MissingFile : ℕ → Cause
-  BadZoneFile : ℕ → ℕ → Cause
+  MissingFile : Kind → ℕ → Cause
+  BadZoneFile : Kind → ℕ → ℕ → Cause
   ExtraName : Name → Cause
   TooManyActive : ℕ → Cause
 
@@ -73,8 +74,8 @@ truth_in held geo = record { told = true; shape = geo.shape; zones = map (zone_i
 
 -- what is wrong with the file of a zone, if anything is
 abbrev pub file_fault : Shape → Kind → ℕ → Option (List ℕ) → Option Cause
-file_fault shape kind z None = Some (MissingFile z)
-file_fault shape kind z (Some bytes) = if is_file_length shape kind (length bytes) then None else Some (BadZoneFile z (length bytes))
+file_fault shape kind z None = Some (MissingFile kind z)
+file_fault shape kind z (Some bytes) = if is_file_length shape kind (length bytes) then None else Some (BadZoneFile kind z (length bytes))
 
 -- the same of the zone with this number
 abbrev pub zone_fault : Lookup → Geometry → ℕ → Option Cause

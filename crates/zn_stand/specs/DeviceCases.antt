@@ -97,28 +97,28 @@ abbrev pub without_one : Listing
 without_one = first_files (replicate 8192 7) (one_zone [] [])
 
 abbrev pub FileMissing : Type 0
-FileMissing = at_rest (holding without_one) ≡ Err (MissingFile 2)
+FileMissing = at_rest (holding without_one) ≡ Err (MissingFile Sequential 2)
 
 -- The file of a conventional zone is a block short.
 abbrev pub short_zone : Listing
 short_zone = first_files (block 7) []
 
 abbrev pub FileShort : Type 0
-FileShort = at_rest (holding short_zone) ≡ Err (BadZoneFile 0 4096)
+FileShort = at_rest (holding short_zone) ≡ Err (BadZoneFile Conventional 0 4096)
 
 -- The file of a sequential zone isn't whole blocks.
 abbrev pub uneven_zone : Listing
 uneven_zone = first_files (replicate 8192 7) (one_zone (8 ∷ block 8) [])
 
 abbrev pub FileUneven : Type 0
-FileUneven = at_rest (holding uneven_zone) ≡ Err (BadZoneFile 1 4097)
+FileUneven = at_rest (holding uneven_zone) ≡ Err (BadZoneFile Sequential 1 4097)
 
 -- The file of a sequential zone is longer than its capacity, though the zone is offline.
 abbrev pub long_zone : Listing
 long_zone = first_files (replicate 8192 7) (one_zone [] (other_zone (replicate 12288 8) ((offline_name Sequential 2, []) ∷ [])))
 
 abbrev pub FileLong : Type 0
-FileLong = at_rest (holding long_zone) ≡ Err (BadZoneFile 2 12288)
+FileLong = at_rest (holding long_zone) ≡ Err (BadZoneFile Sequential 2 12288)
 
 -- Another file.
 abbrev pub with_notes : Listing

@@ -3,6 +3,7 @@ use std::process::Abort;
 use std::test::Fail;
 use zn_backing::OpenError;
 use zn_files::{Files, MemFiles};
+use zn_truth::Kind;
 use zn_zloop::Zloop;
 
 /// A file, by its name.
@@ -18,7 +19,9 @@ enum Given {
 enum Cause {
     NotADevice,
     BadGeometry(u32),
+    /// Of a sequential zone.
     MissingFile(u32),
+    /// Of a sequential zone.
     BadZoneFile(u32, u64),
     ExtraName(&'static str),
 }
@@ -90,8 +93,8 @@ fn is_cause(why: &OpenError, cause: Cause) -> bool {
     match (cause, why) {
         (Cause::NotADevice, OpenError::NotADevice) => true,
         (Cause::BadGeometry(line), OpenError::BadGeometry(found)) => *found == line,
-        (Cause::MissingFile(z), OpenError::MissingFile(found)) => found.0 == z,
-        (Cause::BadZoneFile(z, len), OpenError::BadZoneFile(found, size)) => {
+        (Cause::MissingFile(z), OpenError::MissingFile(Kind::Sequential, found)) => found.0 == z,
+        (Cause::BadZoneFile(z, len), OpenError::BadZoneFile(Kind::Sequential, found, size)) => {
             found.0 == z && *size == len
         }
         (Cause::ExtraName(name), OpenError::ExtraName(found)) => {
