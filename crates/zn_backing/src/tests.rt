@@ -60,9 +60,7 @@ fn is_told(answer: &Result<Found, OpenError>, want: Told) -> bool {
         (
             Err(OpenError::BadZoneFile(kind, z, len)),
             Told::BadZoneFile(other_kind, other, other_len),
-        ) => {
-            *kind == other_kind && z.0 == other && *len == other_len
-        }
+        ) => { *kind == other_kind && z.0 == other && *len == other_len }
         (Err(OpenError::ExtraName(name)), Told::ExtraName(other)) => {
             name.as_bytes() == other.as_bytes()
         }

@@ -255,6 +255,13 @@ impl<D: Injects + Drop> Session<D> {
         })
     }
 
+    /// As long as lines may come, no command of the device answered `Broken` or `Memory`.
+    pub fn sound(&self)
+        ensures { self.now.over ≡ false → self.now.held.device.spoilt ≡ false }
+    {
+        let _ = self.is_over;
+    }
+
     /// The device.
     pub fn device(&self) -> &D
         ensures { D.state result.now ≡ self.now.held.device }
@@ -291,8 +298,8 @@ impl<D: Injects + Drop> Session<D> {
         !self.is_over
     }
 
-    /// Carries out a line of the grammar.
-    fn carry_out<K: Sink>(&mut self, line: &Line<'_>, sink: &mut K) -> Step
+    /// Carries out a line of the grammar, and writes its reply.
+    pub fn carry_out<K: Sink>(&mut self, line: &Line<'_>, sink: &mut K) -> Step
         requires fits { CallFits line.now }
         requires goes_on { self.old.over ≡ false }
         requires few { self.old.steps < 2 ^ 62 }
