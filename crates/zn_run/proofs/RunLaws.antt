@@ -244,6 +244,7 @@ ran_all {status = status} {tail = tail} {script = script} {bytes = bytes} {old =
     record {
       ends = status_by status tail t.ending r.whole.ends ∙ ap (λ (t : Transcript). status_of t.ending) given;
       table = r.whole.table ∙ ap (λ (t : Transcript). t.table) given;
+      spoilt = r.whole.spoilt;
       text = subst A (ap (λ text. t.text ++ text) r.whole.last ∙ ap whole_text given) (added_then r.whole.replies more);
     }
 

@@ -97,6 +97,7 @@ DoneRuns =
 pub record RanAll (script : List ℕ) (status : Status) (old new : State) : Type 0 where
   pub ends : status ≡ status_of (transcript_of old.machine.table script).ending
   pub table : new.machine.table ≡ (transcript_of old.machine.table script).table
+  pub spoilt : new.machine.spoilt ≡ old.machine.spoilt
   pub text : Added (whole_text (transcript_of old.machine.table script)) old.sink new.sink
 
 -- Where the source and the device tell their bytes, a run without faults did all that its script is due, unless there was
