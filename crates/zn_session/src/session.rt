@@ -259,7 +259,7 @@ impl<D: Injects + Drop> Session<D> {
     pub fn sound(&self)
         ensures { self.now.over ≡ false → self.now.held.device.spoilt ≡ false }
     {
-        let _ = self.is_over;
+        let _ = &self.alloc;
     }
 
     /// The device.
