@@ -91,14 +91,16 @@ begins_table s entropy session opened is on =
 
 pub begins : (s : Scratch) (entropy : List ℕ) (session opened : SessionState) (device : DeviceState) → device ≡ scratch_device s
     → session ≡ begun device entropy → CarriesOn scratch_lines session opened
-    → opened.held.device.breaks ≡ 0 → opened.held.device.takes_memory ≡ false → machine_of opened ≡ scratch_machine s entropy
-begins s entropy session opened device is begun_is on whole memory =
+    → (opened.over ≡ false → opened.held.device.spoilt ≡ false) → opened.held.device.breaks ≡ 0 → opened.held.device.takes_memory ≡ false
+    → machine_of opened ≡ scratch_machine s entropy
+begins s entropy session opened device is begun_is on sound whole memory =
     let same : session ≡ begun (scratch_device s) entropy = begun_is ∙ ap (λ (d : DeviceState). begun d entropy) is in
     let m = machine_of opened in
     let T : Table → MachineState = λ t. record m { table = t } in
     let O : Bool → MachineState = λ b. record (T (scratch_table s entropy)) { over = b } in
-    let B : ℕ → MachineState = λ n. record (O false) { breaks = n } in
+    let U : Bool → MachineState = λ b. record (O false) { spoilt = b } in
+    let B : ℕ → MachineState = λ n. record (U false) { breaks = n } in
     let M : Bool → MachineState = λ b. record (B 0) { takes_memory = b } in
     let S : ℕ → MachineState = λ n. record (M false) { steps = n } in
-    ap T (begins_table s entropy session opened same on) ∙ ap O on.goes_on ∙ ap B whole ∙ ap M memory
+    ap T (begins_table s entropy session opened same on) ∙ ap O on.goes_on ∙ ap U (sound on.goes_on) ∙ ap B whole ∙ ap M memory
     ∙ ap S (on.counted ∙ ap (λ (x : SessionState). x.steps + 3) same)

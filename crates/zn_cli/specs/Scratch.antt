@@ -29,7 +29,7 @@ scratch_device s = calm_state (fresh_truth (shape_of s) (kinds_of s))
 -- The machine on it: three lines are carried out, which have no reply. Its device's commands take no memory.
 abbrev pub scratch_machine : Scratch → List ℕ → MachineState
 scratch_machine s entropy =
-    record { table = scratch_table s entropy; over = false; breaks = 0; takes_memory = false; steps = 3 }
+    record { table = scratch_table s entropy; over = false; spoilt = false; breaks = 0; takes_memory = false; steps = 3 }
 
 -- the table after a line, over a device that tells its bytes
 abbrev pub after_line : Table → Line → Table

@@ -64,6 +64,7 @@ fn session(
     };
     let begun = begin(&mut session);
     never_breaks(&session);
+    session.sound();
     if begun { Ok(session) } else { Err(AllocError) }
 }
 
