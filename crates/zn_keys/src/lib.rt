@@ -1,0 +1,27 @@
+//! Reads the keys of the command `add`: the zoned device that its words ask for.
+#![tactic(auto)]
+
+pub mod cases;
+mod given;
+mod limits;
+mod settings;
+
+ghost use Rattle.std.specs.Prelude.{◌≡◌, IfSome, IsTrue, map};
+ghost use Rattle.zn_stand.specs.DeviceText.{is_within};
+ghost use Rattle.zn_keys.specs.Keys.{geometry_asked};
+
+use given::given_in;
+use limits::geometry_by;
+use zn_stand::Geometry;
+
+/// The device that the words ask for, if they ask for one.
+#[tactic(auto, unfolding(crate::specs::Keys::geometry_asked))]
+pub fn geometry_of(words: &[&str]) -> Option<Geometry>
+    ensures asked { result ≡ geometry_asked (map (λ w. w.now) words.now) }
+    ensures within { IfSome result (λ geo. IsTrue (is_within geo)) }
+{
+    geometry_by(given_in(words)?)
+}
+
+#[cfg(test)]
+mod tests;
