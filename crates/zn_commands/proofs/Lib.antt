@@ -1,0 +1,9 @@
+pub mod LineLaws
+pub mod Ending
+pub mod AddLaws
+pub mod DeviceLaws
+pub mod Replies
+pub mod FormatLaws
+pub mod StillTold
+pub mod ZeroLaws
+pub mod RunningLaws

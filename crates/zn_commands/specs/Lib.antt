@@ -1,0 +1,10 @@
+pub mod Lines
+pub mod Causes
+pub mod Adding
+pub mod Devices
+pub mod Refusing
+pub mod Formatting
+pub mod Cases
+pub mod Outside
+pub mod LineZero
+pub mod Running
