@@ -1,5 +1,5 @@
 -- What words give one after another is what their settings give together.
-use Rattle.std.proofs.Common.{◌≡◌, ℕ, List, [], ◌∷◌, ◌++◌, Option, Some, None, refl, ap, sym, ◌∙◌}
+use Rattle.std.proofs.Common.{◌≡◌, ℕ, List, [], ◌∷◌, ◌++◌, Option, Some, None, refl, sym, ◌∙◌}
 use Rattle.std.specs.List.{filter_map}
 use Rattle.zn_keys.specs.declared.given.Given.{Given}
 use Rattle.zn_keys.specs.declared.settings.Setting.{Setting}

@@ -1,8 +1,7 @@
 -- What asks for no device.
-use Rattle.std.proofs.Common.{◌≡◌, ◌≢◌, ℕ, ◌+◌, ◌<◌, ◌≤◌, Bool, true, false, cond, List, [], length, drop, Option, Some, None, refl, ap, ◌∙◌, arith}
+use Rattle.std.proofs.Common.{◌≡◌, ℕ, ◌+◌, ◌<◌, ◌≤◌, Bool, true, false, cond, List, [], length, Some, None, refl, ap, ◌∙◌, arith}
 use Rattle.std.specs.Prelude.{IsTrue}
-use Rattle.std.specs.Option.{IfSome}
-use Rattle.std.specs.List.{position_or_len, before_first, after_first}
+use Rattle.std.specs.List.{position_or_len, before_first}
 use Rattle.std.proofs.lemmas.List.{drop_all}
 use Rattle.std.proofs.lemmas.Bool.Decides.{nat_tests}
 use Rattle.zn_base.specs.Decimals.{number_in}
@@ -10,9 +9,8 @@ use Rattle.zn_base.proofs.DecimalLaws.{number_in-empty}
 use Rattle.zn_stand.specs.declared.numbers.Geometry.{Geometry}
 use Rattle.zn_stand.specs.declared.numbers.TheConstants.{GREATEST_NUMBER}
 use Rattle.zn_stand.specs.DeviceText.{is_within}
-use Rattle.zn_stand.proofs.DeviceTexts.{AreHeld, within_held}
-use Rattle.zn_keys.specs.declared.given.Given.{Given}
-use Rattle.zn_keys.specs.Keys.{◌>>=◌, is_equals, setting_named, setting_of, limited, geometry_with, geometry_by, given_in, geometry_asked}
+use Rattle.zn_stand.proofs.DeviceTexts.{within_held}
+use Rattle.zn_keys.specs.Keys.{◌>>=◌, is_equals, setting_named, setting_of, limited}
 
 -- a word without `=` sets nothing
 pub without_equals : (word : List ℕ) → position_or_len is_equals word ≡ length word → setting_of word ≡ None
@@ -42,6 +40,6 @@ too_many geo many = refused geo (is_within geo) (λ within. omega (arith, (withi
 pub too_great : (geo : Geometry) → GREATEST_NUMBER < geo.shape.zone_blocks → limited geo ≡ None
 too_great geo great = refused geo (is_within geo) (λ within. omega (arith, (within_held geo within).blocks))
 
--- or of a greater capacity
+-- zones of a greater capacity than such a number counts
 pub too_roomy : (geo : Geometry) → GREATEST_NUMBER < geo.shape.zone_capacity → limited geo ≡ None
 too_roomy geo great = refused geo (is_within geo) (λ within. omega (arith, (within_held geo within).capacity))

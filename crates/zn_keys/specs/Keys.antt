@@ -58,32 +58,32 @@ settings_of (word ∷ words) = do
 
 -- ---- what they give
 
--- the value that a setting has for the size of the device
+-- the size of the device, in blocks, where a setting gives it
 abbrev pub size_in : Setting → Option ℕ
 size_in (Size blocks) = Some blocks
 size_in _ = None
 
--- for the size of a zone
+-- the size of a zone, in blocks, where a setting gives it
 abbrev pub zone_size_in : Setting → Option ℕ
 zone_size_in (ZoneSize blocks) = Some blocks
 zone_size_in _ = None
 
--- for the capacity of a sequential zone
+-- the capacity of sequential zones, in blocks, where a setting gives it
 abbrev pub zone_capacity_in : Setting → Option ℕ
 zone_capacity_in (ZoneCapacity blocks) = Some blocks
 zone_capacity_in _ = None
 
--- for the number of conventional zones
+-- the number of conventional zones, where a setting gives it
 abbrev pub conv_zones_in : Setting → Option ℕ
 conv_zones_in (ConvZones zones) = Some zones
 conv_zones_in _ = None
 
--- for the limit of open zones
+-- the limit of open zones, where a setting gives it
 abbrev pub max_open_in : Setting → Option ℕ
 max_open_in (MaxOpen zones) = Some zones
 max_open_in _ = None
 
--- for the limit of active zones
+-- the limit of active zones, where a setting gives it
 abbrev pub max_active_in : Setting → Option ℕ
 max_active_in (MaxActive zones) = Some zones
 max_active_in _ = None

@@ -14,7 +14,9 @@ use given::given_in;
 use limits::geometry_by;
 use zn_stand::Geometry;
 
-/// The device that the words ask for, if they ask for one.
+/// The device that words ask for, each of them a key, `=` and a decimal number, as `capacity_mb=64`. Sizes are in MiB
+/// or in blocks of 4,096 bytes. There is none where a word is anything else, a value is given twice, the size of the
+/// device or of a zone is missing, or a limit of a device is broken.
 #[tactic(auto, unfolding(crate::specs::Keys::geometry_asked))]
 pub fn geometry_of(words: &[&str]) -> Option<Geometry>
     ensures asked { result ≡ geometry_asked (map (λ w. w.now) words.now) }

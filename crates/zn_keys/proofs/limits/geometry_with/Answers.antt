@@ -1,4 +1,4 @@
-use Rattle.std.proofs.Common.{ℕ, ◌<◌, sym, ◌∙◌, subst, arith}
+use Rattle.std.proofs.Common.{ℕ, ◌<◌, sym, ◌∙◌, subst}
 use Rattle.zn_stand.specs.declared.numbers.TheConstants.{GREATEST_NUMBER}
 use Rattle.zn_keys.specs.Keys.{geometry_with}
 use Rattle.zn_keys.proofs.Refusals.{without_blocks, too_many, too_great, too_roomy}
