@@ -25,6 +25,3 @@ pub use owned::{DEVICE, is_marker_of, is_name_of};
 pub use text::{device_text, read_text};
 pub use whole::{Found, look};
 pub use zones::zones_in;
-
-#[cfg(test)]
-mod tests;

@@ -11,8 +11,6 @@ mod losing;
 mod pending;
 mod refused;
 mod struck;
-#[cfg(test)]
-mod tests;
 mod turned;
 
 pub use faulty::{Faulty, FaultyFail};

@@ -21,6 +21,3 @@ pub use images::Choice;
 pub use memory::MemFiles;
 pub use names::Names;
 pub use texts::Text;
-
-#[cfg(test)]
-mod tests;

@@ -5,8 +5,6 @@ mod data;
 mod forms;
 mod items;
 mod losses;
-#[cfg(test)]
-mod tests;
 mod words;
 
 pub use data::{data_len, expand};

@@ -12,6 +12,3 @@ mod room;
 mod session;
 
 pub use session::{Session, SessionFail};
-
-#[cfg(test)]
-mod tests;

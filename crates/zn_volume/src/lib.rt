@@ -12,8 +12,6 @@ mod prepared;
 mod reading;
 mod reporting;
 mod requests;
-#[cfg(test)]
-mod tests;
 mod truncating;
 mod unmounting;
 mod volume;
