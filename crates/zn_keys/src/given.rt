@@ -1,5 +1,5 @@
 // What the words give.
-ghost use Rattle.std.specs.Prelude.{◌≡◌, map};
+ghost use Rattle.std.specs.Prelude.{◌≡◌, map, string_bytes};
 ghost use Rattle.zn_keys.specs.Keys.{given_in};
 ghost use Rattle.zn_keys.specs.Steps.{once, with_setting};
 
@@ -43,12 +43,12 @@ fn with_setting(given: Given, setting: Setting) -> Option<Given>
 }
 
 /// What the words give, if each is a setting, and no value is given twice.
-pub fn given_in(words: &[&str]) -> Option<Given>
-    ensures { result ≡ given_in (map (λ w. w.now) words.now) }
+pub fn given_in(words: &[String]) -> Option<Given>
+    ensures { result ≡ given_in (map string_bytes words.now) }
 {
     let mut given = Given::default();
     for word in words {
-        given = with_setting(given, setting_of(word)?)?;
+        given = with_setting(given, setting_of(word.as_str())?)?;
     }
     Some(given)
 }

@@ -6,7 +6,7 @@ mod given;
 mod limits;
 mod settings;
 
-ghost use Rattle.std.specs.Prelude.{◌≡◌, IfSome, IsTrue, map};
+ghost use Rattle.std.specs.Prelude.{◌≡◌, IfSome, IsTrue, map, string_bytes};
 ghost use Rattle.zn_stand.specs.DeviceText.{is_within};
 ghost use Rattle.zn_keys.specs.Keys.{geometry_asked};
 
@@ -18,8 +18,8 @@ use zn_stand::Geometry;
 /// or in blocks of 4,096 bytes. There is none where a word is anything else, a value is given twice, the size of the
 /// device or of a zone is missing, or a limit of a device is broken.
 #[tactic(auto, unfolding(crate::specs::Keys::geometry_asked))]
-pub fn geometry_of(words: &[&str]) -> Option<Geometry>
-    ensures asked { result ≡ geometry_asked (map (λ w. w.now) words.now) }
+pub fn geometry_of(words: &[String]) -> Option<Geometry>
+    ensures asked { result ≡ geometry_asked (map string_bytes words.now) }
     ensures within { IfSome result (λ geo. IsTrue (is_within geo)) }
 {
     geometry_by(given_in(words)?)

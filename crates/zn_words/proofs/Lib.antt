@@ -1,0 +1,12 @@
+pub mod Lengths
+pub mod Rows
+pub mod Bare
+pub mod Rules
+pub mod Walks
+pub mod Defaults
+pub mod Placing
+pub mod PlainValues
+pub mod ScratchWords
+pub mod Standing
+pub mod Formats
+pub mod Names

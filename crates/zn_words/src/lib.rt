@@ -1,0 +1,17 @@
+//! The words of a command line, and what they ask for.
+#![tactic(auto)]
+
+mod adding;
+mod commands;
+mod flags;
+mod formatting;
+mod parts;
+mod places;
+mod running;
+mod scratch;
+mod values;
+
+pub use commands::{Command, Format, MOST_OPTIONS, dir_of, parse};
+
+#[cfg(test)]
+mod tests;
