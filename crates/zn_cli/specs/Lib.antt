@@ -1,3 +1,2 @@
 pub mod Scratch
-pub mod Words
 pub mod Top

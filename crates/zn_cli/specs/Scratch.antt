@@ -1,10 +1,8 @@
 -- The device in memory that a command line asks for, and the machine on it that a run begins with. (own)
-use Rattle.std.specs.Prelude.{◌≡◌, ℕ, ◌+◌, ◌*◌, ◌≤◌, List, [], length, fold, false}
+use Rattle.std.specs.Prelude.{◌≡◌, ℕ, ◌+◌, List, [], length, fold, false}
 use Rattle.zn_truth.specs.Fresh.{fresh_truth}
-use Rattle.zn_truth.specs.declared.limits.TheConstants.{MAX_BLOCKS, MAX_ZONES}
 use Rattle.zn_device.specs.Memory.{calm_state}
 use Rattle.zn_device.specs.States.{DeviceState}
-use Rattle.zn_lines.specs.declared.limits.TheConstants.{SCRATCH_BLOCKS}
 use Rattle.zn_lines.specs.declared.words.Scratch.{Scratch}
 use Rattle.zn_lines.specs.Lines.{Line}
 use Rattle.zn_lines.specs.Scratch.{kinds_of, shape_of, scratch_table}
@@ -12,15 +10,6 @@ use Rattle.zn_lines.specs.Session.{line_step}
 use Rattle.zn_lines.specs.Table.{Table}
 use Rattle.zn_run.specs.States.{MachineState}
 use Rattle.zn_session.specs.SessionState.{SessionState, table_in}
-
--- The limits of a device in memory, which has at least one zone.
-pub record IsWithin (s : Scratch) : Type 0 where
-  pub some : 1 ≤ s.zones
-  pub most : s.zones ≤ MAX_ZONES
-  pub conv : s.conv ≤ s.zones
-  pub least : 2 ≤ s.blocks
-  pub size : s.blocks ≤ MAX_BLOCKS
-  pub all : s.zones * s.blocks ≤ SCRATCH_BLOCKS
 
 -- the new device that is asked for
 abbrev pub scratch_device : Scratch → DeviceState

@@ -1,7 +1,8 @@
 // The device that a command line asks for.
 ghost use Rattle.std.specs.Prelude.{◌≡◌, IfOk};
 ghost use Rattle.zn_lines.specs.Scratch.{kinds_of, shape_of};
-ghost use Rattle.zn_cli.specs.Scratch.{scratch_device, IsWithin};
+ghost use Rattle.zn_words.specs.CommandsMeant.{IsWithin};
+ghost use Rattle.zn_cli.specs.Scratch.{scratch_device};
 
 use std::alloc::{AllocError, Global};
 use zn_device::{MemDevice, Zoned};

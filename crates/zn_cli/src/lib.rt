@@ -2,10 +2,7 @@
 #![tactic(auto)]
 
 mod device;
+mod scratch;
 mod top;
-mod words;
 
 pub use top::zonefs_main;
-
-#[cfg(test)]
-mod tests;

@@ -1,119 +1,112 @@
 // The top call.
-ghost use Rattle.std.specs.Prelude.{◌≡◌, ◌<◌, ◌^◌, true, false, map, Some, IfOk, string_bytes};
-ghost use Rattle.zn_lines.specs.Scratch.{command_of, scratch_lines};
-ghost use Rattle.zn_session.specs.SessionState.{machine_of, table_in};
-ghost use Rattle.zn_cli.specs.Scratch.{scratch_machine, CarriesOn, IsWithin};
-ghost use Rattle.zn_cli.specs.Top.{Called, StatusCauses, AcceptedRuns, streams_of};
+ghost use Rattle.std.specs.Prelude.{◌≡◌, Some, map, string_bytes, unwrap_or};
+ghost use Rattle.zn_lines.specs.Session.{uuid_from};
+ghost use Rattle.zn_words.specs.Commands.{command_of};
+ghost use Rattle.zn_words.specs.CommandsMeant.{command_meant, IsAccepted};
+ghost use Rattle.zn_commands.specs.Outside.{outside_of};
+ghost use Rattle.zn_cli.specs.Top.{Called, StatusCauses, AcceptedRuns};
 
-use crate::device::device;
-use crate::words::parse;
+use crate::scratch::run_scratch;
 use std::alloc::{AllocError, Global};
+use uuid::Builder;
 use zn_base::{Sink, Source};
-use zn_device::MemDevice;
-use zn_fault::Faulty;
-use zn_lines::Scratch;
-use zn_model::{Mode, Who};
-use zn_run::{Status, end_starved, end_with, run};
-use zn_script::{FormatWords, Line};
-use zn_session::Session;
+use zn_commands::{Ended, add, mkfs, run_device};
+use zn_files::Files;
+use zn_run::{Status, end_starved, end_with};
+use zn_words::{Command, parse};
 
-/// A device in memory never breaks, and its commands take no memory.
-fn never_breaks(session: &Session<Faulty<MemDevice>>)
-    ensures whole { session.now.held.device.breaks ≡ 0 }
-    ensures memory { session.now.held.device.takes_memory ≡ false }
+/// The identifier that is given; without one, that of version 4 which sixteen bytes make.
+fn identifier(given: Option<[u8; 16]>, entropy: [u8; 16]) -> [u8; 16]
+    ensures { result ≡ unwrap_or given (uuid_from entropy) }
 {
-    session.device();
-}
-
-/// Formats the device with the defaults, mounts it, and opens `seq/0` by number 0 where that is there. It answers
-/// whether all of this was done: not where memory is wanting.
-fn begin(session: &mut Session<Faulty<MemDevice>>) -> bool
-    requires goes_on { session.old.over ≡ false }
-    requires few { session.old.steps < 2 ^ 61 }
-    ensures { result ≡ true → (table_in session.old).world.truth.told ≡ true
-        → CarriesOn scratch_lines session.old session.new }
-{
-    let nothing = FormatWords {
-        force: false,
-        label: None,
-        uuid: None,
-        features: None,
-    };
-    let root = Who { uid: 0, gid: 0 };
-    if !session.perform(&Line::Mkfs(nothing)) {
-        return false;
+    match given {
+        Some(uuid) => uuid,
+        None => Builder::from_random_bytes(entropy).into_uuid().into_bytes(),
     }
-    if !session.perform(&Line::Mount(None)) {
-        return false;
-    }
-    session.perform(&Line::Open(0, "seq/0", Mode::READ_WRITE, root))
 }
 
-/// A session on a new device in memory, formatted and mounted, with `seq/0` open by number 0 where that is there.
-fn session(
+/// Does what a command asks for.
+fn carry_out<S: Source, F: Files + Drop, K: Sink>(
     alloc: Global,
-    scratch: Scratch,
-    entropy: [u8; 16],
-) -> Result<Session<Faulty<MemDevice>>, AllocError>
-    requires { IsWithin scratch }
-    ensures { IfOk result (λ s. machine_of s ≡ scratch_machine scratch entropy) }
-{
-    let device = device(alloc, scratch)?;
-    let Ok(mut session) = Session::new(alloc, device, entropy) else {
-        return Err(AllocError);
-    };
-    let begun = begin(&mut session);
-    never_breaks(&session);
-    session.sound();
-    if begun { Ok(session) } else { Err(AllocError) }
-}
-
-/// Carries out the script that a source gives, on a new device in memory.
-fn run_scratch<S: Source, K: Sink>(
-    alloc: Global,
-    scratch: Scratch,
+    command: &Command<'_>,
     entropy: [u8; 16],
     source: &mut S,
+    files: F,
     sink: &mut K,
-) -> Status
-    requires { IsWithin scratch }
-    ensures { Called (Some scratch) entropy result
-        (streams_of (S.state source.old) (K.state sink.old)) (streams_of (S.state source.new) (K.state sink.new)) }
+) -> Ended<F>
+    requires { IsAccepted command.now }
+    ensures called { Called (Some (command_meant command.now)) entropy result.status
+        (outside_of (F.state files) (S.state source.old) (K.state sink.old))
+        (outside_of (F.state result.files) (S.state source.new) (K.state sink.new)) }
+    ensures causes { StatusCauses (Some (command_meant command.now)) entropy result.status
+        (outside_of (F.state files) (S.state source.old) (K.state sink.old))
+        (outside_of (F.state result.files) (S.state source.new) (K.state sink.new)) }
+    ensures accepted { AcceptedRuns (Some (command_meant command.now)) entropy result.status
+        (outside_of (F.state files) (S.state source.old) (K.state sink.old))
+        (outside_of (F.state result.files) (S.state source.new) (K.state sink.new)) }
 {
-    match session(alloc, scratch, entropy) {
-        Ok(mut session) => {
-            let status = run(alloc, &mut session, source, sink);
-            never_breaks(&session);
-            status
+    match command {
+        Command::Scratch(scratch) => Ended {
+            status: run_scratch(alloc, *scratch, entropy, source, sink),
+            files,
+        },
+        Command::Add(_, geo) => add(alloc, geo, files, sink),
+        Command::Mkfs(_, format) => {
+            let uuid = identifier(format.uuid, entropy);
+            mkfs(
+                alloc,
+                &format.label,
+                &format.opts,
+                uuid,
+                format.force,
+                files,
+                sink,
+            )
         }
-        Err(_) => end_starved(sink),
+        Command::Run(_, options) => run_device(alloc, *options, entropy, files, source, sink),
     }
 }
 
 /// Does what the words of a command line ask for, but for the program's name.
 ///
-/// `scratch ZONES CONV BLOCKS` makes a device in memory, formats it with the defaults and mounts it, opens `seq/0` for
-/// reading and writing as number 0 where that is there, and carries out the script that the source gives; the replies
-/// and a last line go to the sink. All other words are a bad command line. Where memory is wanting for the words or for
-/// the device, nothing is read. Where a format is asked for that names no identifier, that is made of the sixteen bytes
-/// of entropy.
-pub fn zonefs_main<S: Source, K: Sink>(
+/// - `scratch ZONES CONV BLOCKS` makes a device in memory, formats it with the defaults and mounts it, opens `seq/0` for
+///   reading and writing as number 0 where that is there, and carries out the script that the source gives.
+/// - `add DIR KEY=VALUE..` makes a device in the directory, which must be empty.
+/// - `mkfs DIR [-f] [-L LABEL] [-U UUID] [-o FEATURES]` formats the device in the directory.
+/// - `run DIR [-o OPTIONS]` opens the device in the directory, mounts it where there are options, and carries out the
+///   script that the source gives.
+///
+/// All other words are a bad command line. The files are those of the directory that the words name, which
+/// `zn_words::dir_of` tells; `scratch`, and words that are no command, make no call on them. Replies and a last line go
+/// to the sink. Where memory is wanting for the words or for a device in memory, nothing is read. Where a format names
+/// no identifier, that is made of the sixteen bytes of entropy. The directory is given back as the call left it.
+pub fn zonefs_main<S: Source, F: Files + Drop, K: Sink>(
     alloc: Global,
     words: &[String],
     entropy: [u8; 16],
     source: &mut S,
+    files: F,
     sink: &mut K,
-) -> Status
-    ensures called { Called (command_of (map string_bytes words.now)) entropy result
-        (streams_of (S.state source.old) (K.state sink.old)) (streams_of (S.state source.new) (K.state sink.new)) }
-    ensures causes { StatusCauses (command_of (map string_bytes words.now)) entropy result
-        (streams_of (S.state source.old) (K.state sink.old)) (streams_of (S.state source.new) (K.state sink.new)) }
-    ensures accepted { AcceptedRuns (command_of (map string_bytes words.now)) entropy result
-        (streams_of (S.state source.old) (K.state sink.old)) (streams_of (S.state source.new) (K.state sink.new)) }
+) -> Ended<F>
+    ensures called { Called (command_of (map string_bytes words.now)) entropy result.status
+        (outside_of (F.state files) (S.state source.old) (K.state sink.old))
+        (outside_of (F.state result.files) (S.state source.new) (K.state sink.new)) }
+    ensures causes { StatusCauses (command_of (map string_bytes words.now)) entropy result.status
+        (outside_of (F.state files) (S.state source.old) (K.state sink.old))
+        (outside_of (F.state result.files) (S.state source.new) (K.state sink.new)) }
+    ensures accepted { AcceptedRuns (command_of (map string_bytes words.now)) entropy result.status
+        (outside_of (F.state files) (S.state source.old) (K.state sink.old))
+        (outside_of (F.state result.files) (S.state source.new) (K.state sink.new)) }
 {
     match parse(alloc, words) {
-        Ok(Some(scratch)) => run_scratch(alloc, scratch, entropy, source, sink),
-        Ok(None) => end_with(sink, b"zonefs: bad command line\n", Status::Usage),
-        Err(AllocError) => end_starved(sink),
+        Ok(Some(command)) => carry_out(alloc, &command, entropy, source, files, sink),
+        Ok(None) => Ended {
+            status: end_with(sink, b"zonefs: bad command line\n", Status::Usage),
+            files,
+        },
+        Err(AllocError) => Ended {
+            status: end_starved(sink),
+            files,
+        },
     }
 }

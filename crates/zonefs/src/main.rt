@@ -1,5 +1,5 @@
-//! Carries out a script of file calls, from standard input, on a zoned device in memory, and writes the replies
-//! to standard output.
+//! Makes and formats zoned devices in directories, and carries out scripts of file calls, from standard input, on them or
+//! on one in memory; it writes the replies to standard output.
 #![tactic(auto)]
 
 ghost use Rattle.std.specs.Prelude.{◌≡◌, ◌⊎◌, codes};
@@ -12,8 +12,10 @@ use std::process::ExitCode;
 use std::random::RandomSource;
 use std::{env, io};
 use zn_cli::zonefs_main;
-use zn_host::{ReaderSource, WriterSink};
+use zn_files::{Files, MemFiles};
+use zn_host::{HostFiles, ReaderSource, WriterSink};
 use zn_run::Status;
+use zn_words::dir_of;
 
 /// The words of the command line after the program's name.
 fn words(rt: HostRuntime) -> io::Result<Vec<String>> {
@@ -44,19 +46,37 @@ fn entropy<R: RandomSource>(rt: &R) -> [u8; 16] {
     }
 }
 
-/// Does what the command line asks for. A word that isn't UTF-8 fits no command, and neither do no words.
-fn carry_out(rt: HostRuntime) -> Status {
+/// Does what the words ask for, with these files. Nothing but the command calls them.
+fn carry_out<F: Files + Drop>(rt: HostRuntime, words: &[String], files: F) -> Status {
+    let Ok(mut sink) = WriterSink::new(rt.alloc(), rt.stdout()) else {
+        return starved(&mut rt.stdout());
+    };
+    let mut source = ReaderSource::new(rt.stdin());
+    zonefs_main(
+        rt.alloc(),
+        words,
+        entropy(&rt),
+        &mut source,
+        files,
+        &mut sink,
+    )
+    .status
+}
+
+/// Does what the command line asks for, with the files of the directory that it names. A word that isn't UTF-8 fits no
+/// command, and neither do no words.
+fn run(rt: HostRuntime) -> Status {
     let alloc = rt.alloc();
     let words = match words(rt) {
         Ok(words) => words,
         Err(error) if error.kind() == ErrorKind::OutOfMemory => return starved(&mut rt.stdout()),
         Err(_) => Vec::new(alloc),
     };
-    let Ok(mut sink) = WriterSink::new(alloc, rt.stdout()) else {
-        return starved(&mut rt.stdout());
-    };
-    let mut source = ReaderSource::new(rt.stdin());
-    zonefs_main(alloc, &words, entropy(&rt), &mut source, &mut sink)
+    match dir_of(alloc, &words) {
+        Ok(Some(path)) => carry_out(rt, &words, HostFiles::new(rt, alloc, path)),
+        Ok(None) => carry_out(rt, &words, MemFiles::new(alloc)),
+        Err(_) => starved(&mut rt.stdout()),
+    }
 }
 
 /// How a run ended, as the exit status.
@@ -67,5 +87,5 @@ fn exit_code(status: Status) -> ExitCode
 }
 
 fn main(rt: HostRuntime) -> ExitCode {
-    exit_code(carry_out(rt))
+    exit_code(run(rt))
 }

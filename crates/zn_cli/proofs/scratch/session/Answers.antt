@@ -1,5 +1,5 @@
 use Rattle.zn_cli.proofs.Beginning.{begins, session_told}
-use Rattle.zn_cli.proofs.top.session.Goals as goal
+use Rattle.zn_cli.proofs.scratch.session.Goals as goal
 
 pub returns-then-begun : goal.returns-then-begun
 returns-then-begun c =

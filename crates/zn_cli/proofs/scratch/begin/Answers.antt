@@ -1,6 +1,6 @@
 use Rattle.std.proofs.Common.{◌≡◌, true, rules}
 use Rattle.zn_cli.proofs.Beginning.{lines_begun}
-use Rattle.zn_cli.proofs.top.begin.Goals as goal
+use Rattle.zn_cli.proofs.scratch.begin.Goals as goal
 
 pub returns : goal.returns
 returns c = λ done told.

@@ -1,6 +1,0 @@
-use Rattle.std.proofs.Common.{map, string_bytes, sym}
-use Rattle.zn_cli.proofs.ScratchWords.{not_values_refused}
-use Rattle.zn_cli.proofs.words.scratch.parse.Goals as goal
-
-pub returns-then-not-are_values-clause-asked : goal.returns-then-not-are_values-clause-asked
-returns-then-not-are_values-clause-asked c = sym (not_values_refused (map string_bytes c.args.words.now) (sym c.if-not-are_values.ensures))
