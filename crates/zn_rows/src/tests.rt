@@ -1,3 +1,4 @@
+mod directories;
 mod faults;
 mod policies;
 mod power;
@@ -11,6 +12,7 @@ use std::test::Fail;
 use zn_base::Source;
 use zn_base::memory::{MemSink, MemSource};
 use zn_cli::zonefs_main;
+use zn_files::MemFiles;
 use zn_run::Status;
 
 /// How many bytes a sink has room for.
@@ -64,7 +66,8 @@ fn ends_so<R: Abort + Copy>(
 ) -> Result<(), Fail> {
     let list = words_of(alloc, words)?;
     let mut sink = MemSink::new(alloc, ROOM, Vec::new(alloc))?;
-    let got = zonefs_main(alloc, &list, ENTROPY, source, &mut sink);
+    let files = MemFiles::new(alloc);
+    let got = zonefs_main(alloc, &list, ENTROPY, source, files, &mut sink).status;
     assert_eq!(&rt; sink.bytes(), written.as_bytes(), "{words}: {written}");
     assert_eq!(&rt; got, status, "{words}: {written}");
     Ok(())
@@ -452,7 +455,8 @@ fn faults_end_runs(rt: HostRuntime) -> Result<(), Fail> {
     let words = words_of(alloc, "scratch 4 1 2")?;
     let mut source = source_of(alloc, b"size 0\nsize 0\n", &[])?;
     let mut sink = MemSink::new(alloc, ROOM, vec![in alloc; 1]?)?;
-    let got = zonefs_main(alloc, &words, ENTROPY, &mut source, &mut sink);
+    let files = MemFiles::new(alloc);
+    let got = zonefs_main(alloc, &words, ENTROPY, &mut source, files, &mut sink).status;
     assert_eq!(rt; got, Status::WriteFault);
     assert_eq!(rt; sink.bytes().len(), 0);
     Ok(())
@@ -599,8 +603,9 @@ fn first_run(alloc: Global) -> Result<(Status, MemSink), AllocError> {
     let words = words_of(alloc, case.words)?;
     let mut source = source_of(alloc, case.script.as_bytes(), &[])?;
     let mut sink = MemSink::new(alloc, ROOM, Vec::new(alloc))?;
-    let status = zonefs_main(alloc, &words, ENTROPY, &mut source, &mut sink);
-    Ok((status, sink))
+    let files = MemFiles::new(alloc);
+    let ended = zonefs_main(alloc, &words, ENTROPY, &mut source, files, &mut sink);
+    Ok((ended.status, sink))
 }
 
 /// Runs the first row, whose answer is its own or that memory is wanting, whichever allocation fails.
