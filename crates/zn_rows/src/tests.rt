@@ -1,5 +1,6 @@
 mod directories;
 mod faults;
+mod host;
 mod policies;
 mod power;
 mod recovery;

@@ -163,43 +163,43 @@ fn active_zones_are_limited(rt: HostRuntime) -> Result<(), Fail> {
 }
 
 /// Seven conventional zones are one file, the power goes, and what was synced is there in the next run.
-#[test]
-fn a_day_of_a_device(rt: HostRuntime) -> Result<(), Fail> {
-    follow_all(
-        rt,
-        rt.alloc(),
-        &[
-            is_ok("add D capacity_mb=64 zone_size_mb=1 conv_zones=8"),
-            is_ok(
-                "mkfs D -L data -U 6ba7b810-9dad-11d1-80b4-00c04fd430c8 \
+/// A device is made, formatted, used until its power is lost, and found again by the next run.
+pub(super) fn day() -> [Case; 4] {
+    [
+        is_ok("add D capacity_mb=64 zone_size_mb=1 conv_zones=8"),
+        is_ok(
+            "mkfs D -L data -U 6ba7b810-9dad-11d1-80b4-00c04fd430c8 \
                  -o aggr_cnv,uid=1000,gid=100,perm=660",
-            ),
-            done(
-                "run D",
-                "mount errors=repair\nlist /\nlist cnv\nstat cnv/0\nstat seq\n\
+        ),
+        done(
+            "run D",
+            "mount errors=repair\nlist /\nlist cnv\nstat cnv/0\nstat seq\n\
                  open 0 seq/0 rw uid=1000 gid=100\nopen 1 seq/1 rw uid=2000 gid=2000\n\
                  open 1 cnv/0 rw uid=2000 gid=100\nwrite 1 1044480 41*8192\nread 1 1044479 3\n\
                  write 0 0 42*65536\nsync 0\nfault 8 write 2\nwrite 0 65536 43*16384\nsize 0\n\
                  write 0 73728 44*4096\npower-loss fill=00 8:17\npower-on\nmount errors=repair\n\
                  open 0 seq/0 r uid=1000 gid=100\nsize 0\nread 0 61440 16384\numount\nclose 0\numount\n",
-                "ok\nok 2\ncnv\nseq\nok 1\n0\n\
+            "ok\nok 2\ncnv\nseq\nok 1\n0\n\
                  ok file cnv/0 zone 1 zones 7 size 7340032 blocks 14336 mode 660 uid 1000 gid 100 writers 0\n\
                  ok dir seq size 56\nok\nerror denied\nok\nok\nok 3 00*1+41*2\nok\nok\nok\n\
                  error io-error\nok 73728\nok\nok\nok\nok\nok\nok 69632\n\
                  ok 8192 42*4096+00*4096\nerror busy\nok\nok\n",
-            ),
-            done(
-                "run D -o errors=repair",
-                "open 0 seq/0 rw uid=1000\nread 0 61440 16384\nopen 1 cnv/0 r uid=2000 gid=100\n\
+        ),
+        done(
+            "run D -o errors=repair",
+            "open 0 seq/0 rw uid=1000\nread 0 61440 16384\nopen 1 cnv/0 r uid=2000 gid=100\n\
                  read 1 1044479 8194\nwrite 0 69632 45*4096\n",
-                "ok\nok\nok 8192 42*4096+00*4096\nok\nok 8194 00*1+41*8192+00*1\nok\n",
-            ),
-        ],
-    )?;
+            "ok\nok\nok 8192 42*4096+00*4096\nok\nok 8194 00*1+41*8192+00*1\nok\n",
+        ),
+    ]
+}
+
+#[test]
+fn a_day_of_a_device(rt: HostRuntime) -> Result<(), Fail> {
+    follow_all(rt, rt.alloc(), &day())?;
     Ok(())
 }
 
-/// What a script asks of its device is there in the next run, but for faults and losses that wait, and with power.
 #[test]
 fn harm_stays_in_the_directory(rt: HostRuntime) -> Result<(), Fail> {
     follow_all(

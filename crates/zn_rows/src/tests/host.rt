@@ -1,0 +1,48 @@
+// Commands on a directory of the host.
+
+use super::directories::day;
+use super::{Case, ENTROPY, ROOM, source_of, words_of};
+use std::fs;
+use std::test::Fail;
+use zn_base::memory::MemSink;
+use zn_cli::zonefs_main;
+use zn_files::Text;
+use zn_host::HostFiles;
+
+/// Where the device is made. The words of a command name it `D`, and the caller opens it.
+const PATH: &str = "zn_rows_device";
+
+/// Carries out a command, which opens the directory anew.
+fn ends_there(rt: HostRuntime, case: Case) -> Result<(), Fail> {
+    let alloc = rt.alloc();
+    let list = words_of(alloc, case.words)?;
+    let mut source = source_of(alloc, case.script.as_bytes(), &[])?;
+    let mut sink = MemSink::new(alloc, ROOM, Vec::new(alloc))?;
+    let files = HostFiles::new(rt, alloc, Text::new(alloc, PATH.as_bytes())?);
+    let ended = zonefs_main(alloc, &list, ENTROPY, &mut source, files, &mut sink);
+    assert_eq!(rt;
+        sink.bytes(),
+        case.written.as_bytes(),
+        "{}: {}",
+        case.words,
+        case.script
+    );
+    assert_eq!(rt;
+        ended.status,
+        case.status,
+        "{}: {}",
+        case.words, case.script
+    );
+    Ok(())
+}
+
+#[test]
+fn a_day_in_a_directory_of_the_host(rt: HostRuntime) -> Result<(), Fail> {
+    let _ = fs::remove_dir_all(&rt, PATH);
+    fs::create_dir(&rt, PATH)?;
+    for case in day() {
+        ends_there(rt, case)?;
+    }
+    fs::remove_dir_all(&rt, PATH)?;
+    Ok(())
+}
