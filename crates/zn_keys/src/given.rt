@@ -1,9 +1,10 @@
 // What the words give.
-ghost use Rattle.std.specs.Prelude.{◌≡◌, map, string_bytes};
+ghost use Rattle.std.specs.Prelude.{◌≡◌, map};
 ghost use Rattle.zn_keys.specs.Keys.{given_in};
 ghost use Rattle.zn_keys.specs.Steps.{once, with_setting};
 
 use crate::settings::{Setting, setting_of};
+use std::convert::AsStr;
 
 /// What the words give, each value at most once. Sizes are in blocks.
 #[derive(Clone, Copy, Default)]
@@ -43,8 +44,8 @@ fn with_setting(given: Given, setting: Setting) -> Option<Given>
 }
 
 /// What the words give, if each is a setting, and no value is given twice.
-pub fn given_in(words: &[String]) -> Option<Given>
-    ensures { result ≡ given_in (map string_bytes words.now) }
+pub fn given_in<S: AsStr>(words: &[S]) -> Option<Given>
+    ensures { result ≡ given_in (map S.text words.now) }
 {
     let mut given = Given::default();
     for word in words {

@@ -1,5 +1,4 @@
 use crate::geometry_of;
-use std::alloc::Global;
 use std::test::Fail;
 use zn_stand::Geometry;
 use zn_truth::Shape;
@@ -134,19 +133,10 @@ const REFUSED: [&str; 54] = [
     "capacity_mb=8 zone_size_mb=2 max_open=4 max_active=3",
 ];
 
-/// The words of a text, which blanks part.
-fn words_of(alloc: Global, text: &str) -> Result<Vec<String>, Fail> {
-    let mut words = Vec::new(alloc);
-    for word in text.split(' ') {
-        words.push(String::from_str(alloc, word)?)?;
-    }
-    Ok(words)
-}
-
 #[test]
 fn devices_are_asked_for(rt: HostRuntime) -> Result<(), Fail> {
     for (text, numbers) in ASKED {
-        let words = words_of(rt.alloc(), text)?;
+        let words: Vec<&str> = text.split(' ').collect(rt.alloc())?;
         let [
             zones,
             conv,
@@ -173,9 +163,9 @@ fn devices_are_asked_for(rt: HostRuntime) -> Result<(), Fail> {
 #[test]
 fn other_words_are_refused(rt: HostRuntime) -> Result<(), Fail> {
     for text in REFUSED {
-        let words = words_of(rt.alloc(), text)?;
+        let words: Vec<&str> = text.split(' ').collect(rt.alloc())?;
         assert_eq!(rt; geometry_of(&words), None, "{text}");
     }
-    assert_eq!(rt; geometry_of(&[]), None);
+    assert_eq!(rt; geometry_of::<&str>(&[]), None);
     Ok(())
 }

@@ -1,17 +1,17 @@
 -- What `clap` adds to the rows of the parts, and what stands in all of them.
-use Rattle.std.proofs.Common.{◌≡◌, ◌∙◌, ℕ, ◌&&◌, ◌||◌, ◌⊎◌, inl, inr, Bool, true, false, not, cond, List, [], ◌∷◌, ◌++◌, map, Option, Some, None, option_map, option_and_then, slice_get, codes, refl, ap, sym}
+use Rattle.std.proofs.Common.{◌≡◌, ◌∙◌, ◌&&◌, ◌||◌, ◌⊎◌, inl, inr, Bool, true, false, not, cond, List, [], ◌∷◌, ◌++◌, map, Option, Some, None, option_map, option_and_then, slice_get, codes, refl, ap}
 use Rattle.std.specs.Option.{option_or}
 use Rattle.std.specs.List.{cons_option, filter_map, find, fold, list_all, list_any}
 use Rattle.std.specs.Str.{bytes_eq}
 use Rattle.std.proofs.lemmas.Bool.{and_parts}
 use Rattle.std.proofs.lemmas.List.Folds.{find-append, list_any-append}
-use Rattle.clap.specs.Walk.{Row, Rule, Text, first_of, has_row, one_of, reading_by, row_text, with_default, with_values}
+use Rattle.clap.specs.Walk.{Row, Text, first_of, has_row, reading_by, with_default, with_values}
 use Rattle.clap.specs.declared.parser.matches.ValueSource.TheVariants.{DefaultValue}
 use Rattle.zn_words.specs.Parts.{Part, Alone, With, Other, begun, flag_of, is_use, others_in, parts_from, parts_of, takes_value, value_by, value_of, word_of}
 use Rattle.zn_words.specs.declared.flags.Flag.{Flag}
 use Rattle.zn_words.specs.declared.flags.Flag.TheVariants.{Force, Label, Uuid, Options}
 use Rattle.zn_words.proofs.Rows.{default_added, new_row}
-use Rattle.zn_words.proofs.Rules.{dir_built, flag_built, rules}
+use Rattle.zn_words.proofs.Rules.{flag_built, rules}
 use Rattle.zn_words.proofs.Walks.{row_for}
 
 -- ---- defaults

@@ -3,7 +3,7 @@ use Rattle.std.proofs.Common.{◌≡◌, ◌∙◌, ℕ, Bool, true, false, List
 use Rattle.std.specs.Prelude.{option_and_then}
 use Rattle.zn_model.specs.declared.files.FormatOpts.{FormatOpts}
 use Rattle.zn_keys.specs.Keys.{◌>>=◌}
-use Rattle.zn_words.specs.Commands.{Command, Format, Mkfs, format_by, label_in, uuid_in, features_in, mkfs_by, mkfs_flags, mkfs_of}
+use Rattle.zn_words.specs.Commands.{Format, Mkfs, format_by, label_in, uuid_in, features_in, mkfs_by, mkfs_flags, mkfs_of}
 use Rattle.zn_words.specs.Parts.{Part, given_by, given_in, has_form, others_in, parts_of, value_of}
 use Rattle.zn_words.specs.declared.flags.Flag.TheVariants.{Label, Uuid, Options}
 

@@ -1,7 +1,6 @@
 -- How many parts words have.
-use Rattle.std.proofs.Common.{◌≡◌, ◌∙◌, ℕ, ◌+◌, ◌<◌, ◌≤◌, ◌==◌, ◌&&◌, if◌then◌else◌, Bool, true, false, cond, List, [], ◌∷◌, length, map, suc, Option, Some, None, is_some, refl, ap, ne_eqb, sym, zero-add, arith}
+use Rattle.std.proofs.Common.{◌≡◌, ◌∙◌, ℕ, ◌+◌, ◌≤◌, ◌==◌, ◌&&◌, if◌then◌else◌, Bool, true, false, cond, List, [], ◌∷◌, length, suc, Option, Some, None, is_some, refl, ap, ne_eqb, sym, zero-add, arith}
 use Rattle.std.specs.List.{count_by}
-use Rattle.std.proofs.lemmas.List.{length-map}
 use Rattle.std.proofs.lemmas.List.Sums.{sum_by-cons}
 use Rattle.zn_words.specs.Parts.{Part, Alone, With, Other, begun, flag_of, given_by, given_of, has_form, parts_from, parts_of, takes_value, other_of, others_in}
 use Rattle.zn_words.specs.declared.flags.Flag.{Flag}

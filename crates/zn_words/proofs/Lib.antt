@@ -7,6 +7,9 @@ pub mod Defaults
 pub mod Placing
 pub mod PlainValues
 pub mod ScratchWords
+pub mod KeyWords
+pub mod Features
 pub mod Standing
 pub mod Formats
 pub mod Names
+pub mod Dirs

@@ -1,11 +1,10 @@
 -- Words that name no command.
-use Rattle.std.proofs.Common.{◌≡◌, ◌≢◌, ◌∙◌, ◌≤◌, ℕ, Bool, true, false, List, [], ◌∷◌, Option, None, String, Global, if◌then◌else◌, codes, get_or, length, map, string_bytes, refl, sym, ap, arith}
+use Rattle.std.proofs.Common.{◌≡◌, ◌≢◌, ◌∙◌, ◌≤◌, ℕ, Bool, true, false, List, [], ◌∷◌, None, String, Global, if◌then◌else◌, codes, get_or, length, map, string_bytes, refl, sym, ap, arith}
 use Rattle.std.specs.Str.{bytes_eq}
 use Rattle.std.proofs.lemmas.Slice.Eq.{bytes_eq-Decides}
 use Rattle.zn_words.specs.Commands.{add_of, command_of, in_memory, mkfs_of, run_of}
 use Rattle.zn_base.specs.Decimals.{number_in}
 use Rattle.zn_truth.specs.declared.limits.TheConstants.{MAX_BLOCKS, MAX_ZONES}
-use Rattle.zn_lines.specs.declared.words.Scratch.{Scratch}
 use Rattle.zn_lines.specs.Scratch.{command_of as scratch_in, scratch_by}
 
 pub not_scratch : (name : List ℕ) (words : List (List ℕ)) → bytes_eq name (codes "scratch") ≡ false → scratch_in (name ∷ words) ≡ None

@@ -1,61 +1,70 @@
--- What `clap` makes of values: words that are no flags.
+-- How `clap` walks over values: words that are no options.
 use Rattle.std.proofs.Common.{◌≡◌, ◌∙◌, ℕ, ◌==◌, ◌&&◌, Bool, true, false, not, List, [], ◌∷◌, length, map, option_map, suc, Option, Some, None, IsSome, refl, ap, ap₂, arith}
 use Rattle.std.specs.Borrow.{Bor}
 use Rattle.std.specs.List.{list_all}
 use Rattle.std.proofs.lemmas.Bool.{and_parts, eqb-true}
-use Rattle.clap.specs.Simple.{App, Shape, app_of, app_of_fields, new_app}
+use Rattle.clap.specs.Simple.{Shape}
 use Rattle.clap.specs.Takes.{step_passes, turn_passes, walk_passes, word_passes}
-use Rattle.clap.specs.Walk.{Held, Rule, Step, Text, Walk, after_step, arg_by_index, idle, to_positional, value, walked, word_met}
-use Rattle.clap.specs.declared.builder.command.Command.{Command}
-use Rattle.clap.specs.declared.builder.command.Command.TheOpen.{Command-F}
-use Rattle.clap.specs.declared.builder.command.Command.TheViews.{out-Command as fields_of}
+use Rattle.clap.specs.Walk.{Held, Rule, Step, Text, Waiting, Walk, after_step, arg_by_index, idle, option, plain_word, positional, to_positional, value, walked, word_met}
 use Rattle.zn_base.specs.Decimals.{number_in}
 use Rattle.zn_words.specs.Parts.{is_value}
 use Rattle.zn_words.specs.Scratch.{are_values}
 
--- ---- the walk over values
+-- ---- one value
 
--- a value is no flag, so it goes to a positional
-value_met : (c : List Rule) (position : ℕ) (word : Text) (h : Held) → is_value word ≡ true → word_met c [] false idle position word h ≡ (h, value)
-value_met c position [] h is = absurd (cc is)
-value_met c position (x ∷ xs) h is = go (x == 45) refl is
+-- a value is no flag
+pub value_met : (c : List Rule) (waiting : Waiting) (position : ℕ) (word : Text) (h : Held) → is_value word ≡ true → word_met c [] false waiting position word h ≡ plain_word c waiting word h
+value_met c waiting position [] h is = absurd (cc is)
+value_met c waiting position (x ∷ xs) h is = go waiting (x == 45) refl is
   where
-    go : (b : Bool) → (x == 45) ≡ b → not b ≡ true → word_met c [] false idle position (x ∷ xs) h ≡ (h, value)
-    go true e n = absurd (cc n)
-    go false e n = simp e
+    go : (w : Waiting) (b : Bool) → (x == 45) ≡ b → not b ≡ true → word_met c [] false w position (x ∷ xs) h ≡ plain_word c w (x ∷ xs) h
+    go w true e n = absurd (cc n)
+    go idle false e n = simp e
+    go (option id) false e n = simp e
+    go positional false e n = simp e
 
 -- and asks for nothing
-value_passes : (s : Shape) (word : Text) (h : Held) → is_value word ≡ true → word_passes s [] false idle word h ≡ true
-value_passes s [] h is = absurd (cc is)
-value_passes s (x ∷ xs) h is = go (x == 45) refl is
+pub value_passes : (s : Shape) (waiting : Waiting) (word : Text) (h : Held) → is_value word ≡ true → word_passes s [] false waiting word h ≡ true
+value_passes s waiting [] h is = absurd (cc is)
+value_passes s waiting (x ∷ xs) h is = go waiting (x == 45) refl is
   where
-    go : (b : Bool) → (x == 45) ≡ b → not b ≡ true → word_passes s [] false idle (x ∷ xs) h ≡ true
-    go true e n = absurd (cc n)
-    go false e n = simp e
+    go : (w : Waiting) (b : Bool) → (x == 45) ≡ b → not b ≡ true → word_passes s [] false w (x ∷ xs) h ≡ true
+    go w true e n = absurd (cc n)
+    go idle false e n = simp e
+    go (option id) false e n = simp e
+    go positional false e n = simp e
 
--- where a walk stands between two values
+-- ---- a value that goes to a positional
+
+-- where a walk stands between two words
+abbrev pub standing : Waiting → Held → ℕ → Walk
+standing waiting h position = record { held = h; waiting = waiting; position = position; is_trailing = false; stopped = None }
+
+-- the same where nothing waits for a value
 abbrev pub between : Held → ℕ → Walk
-between h position = record { held = h; waiting = idle; position = position; is_trailing = false; stopped = None }
+between h position = standing idle h position
 
 -- the walk after one more value
-abbrev pub placed : List Rule → Held → ℕ → Text → Walk
-placed c h position word = to_positional c (arg_by_index c position) word (between h position) h
+abbrev pub placed : List Rule → Waiting → Held → ℕ → Text → Walk
+placed c waiting h position word = to_positional c (arg_by_index c position) word (standing waiting h position) h
 
-pub value_walked : (c : List Rule) (h : Held) (position : ℕ) (word : Text) → is_value word ≡ true → walked c [] (between h position) word ≡ placed c h position word
+pub value_walked : (c : List Rule) (waiting : Waiting) (h : Held) (position : ℕ) (word : Text) → plain_word c waiting word h ≡ (h, value) → is_value word ≡ true
+    → walked c [] (standing waiting h position) word ≡ placed c waiting h position word
 unfolding walked
-value_walked c h position word is = ap (λ (p : Held × Step). after_step c word (between h position) p.0 p.1) (value_met c position word h is)
+value_walked c waiting h position word plain is =
+    ap (λ (p : Held × Step). after_step c word (standing waiting h position) p.0 p.1) (value_met c waiting position word h is ∙ plain)
 
 -- the value passes where its place does
-value_turns : (s : Shape) (h : Held) (position : ℕ) (word : Text) → is_value word ≡ true → step_passes s position h value ≡ true
-    → turn_passes s [] (between h position) word ≡ true
-value_turns s h position word is passes =
-    ap₂ (λ (b : Bool) (p : Held × Step). b && step_passes s position p.0 p.1) (value_passes s word h is) (value_met s.rules position word h is) ∙ passes
+value_turns : (s : Shape) (waiting : Waiting) (h : Held) (position : ℕ) (word : Text) → plain_word s.rules waiting word h ≡ (h, value) → is_value word ≡ true
+    → step_passes s position h value ≡ true → turn_passes s [] (standing waiting h position) word ≡ true
+value_turns s waiting h position word plain is passes =
+    ap₂ (λ (b : Bool) (p : Held × Step). b && step_passes s position p.0 p.1) (value_passes s waiting word h is) (value_met s.rules waiting position word h is ∙ plain) ∙ passes
 
-pub value_goes : (s : Shape) (h : Held) (position : ℕ) (word : Text) (rest : List Text) → is_value word ≡ true → step_passes s position h value ≡ true
-    → walk_passes s [] (placed s.rules h position word) rest ≡ true → walk_passes s [] (between h position) (word ∷ rest) ≡ true
+pub value_goes : (s : Shape) (waiting : Waiting) (h : Held) (position : ℕ) (word : Text) (rest : List Text) → plain_word s.rules waiting word h ≡ (h, value) → is_value word ≡ true
+    → step_passes s position h value ≡ true → walk_passes s [] (placed s.rules waiting h position word) rest ≡ true → walk_passes s [] (standing waiting h position) (word ∷ rest) ≡ true
 unfolding walk_passes
-value_goes s h position word rest is passes goes =
-    ap₂ (λ (b : Bool) (w : Walk). b && walk_passes s [] w rest) (value_turns s h position word is passes) (value_walked s.rules h position word is) ∙ goes
+value_goes s waiting h position word rest plain is passes goes =
+    ap₂ (λ (b : Bool) (w : Walk). b && walk_passes s [] w rest) (value_turns s waiting h position word plain is passes) (value_walked s.rules waiting h position word plain is) ∙ goes
 
 -- ---- texts
 
@@ -80,6 +89,8 @@ same_texts (t ∷ texts) (w ∷ words) is =
     let first : t ≡ w = cc in
     let rest : map Some texts ≡ map Some words = cc in
     ap₂ (λ (x : Text) (xs : List Text). x ∷ xs) first (same_texts texts words rest)
+
+-- ---- numbers
 
 is_hyphen : (x : ℕ) → not (x == 45) ≡ false → x ≡ 45
 is_hyphen x is = eqb-true x 45 (go (x == 45) is)

@@ -4,7 +4,7 @@ use Rattle.std.specs.List.{list_all}
 use Rattle.std.proofs.lemmas.Bool.{and_parts}
 use Rattle.clap.specs.Simple.{Shape, built, entered, matches_of}
 use Rattle.clap.specs.Takes.{default_passes, entered_passes, is_valid, settle_passes, takes, walk_passes}
-use Rattle.clap.specs.Walk.{Row, Text, Walk, finished, first_of, nothing_held, rows_of, walk, walk_from, walked}
+use Rattle.clap.specs.Walk.{Row, Text, Walk, finished, first_of, idle, nothing_held, rows_of, walk, walk_from, walked}
 use Rattle.clap.specs.Words.{first_value, found_of}
 use Rattle.clap.specs.declared.ArgMatches.{ArgMatches}
 use Rattle.clap.proofs.WalkLemmas.{first_value-rows}
@@ -29,26 +29,26 @@ module _ (zones conv blocks : Text) (is_zones : is_value zones ≡ true) (is_con
   three = zones ∷ conv ∷ blocks ∷ []
 
   abbrev first : Walk
-  first = placed top.rules nothing_held 1 zones
+  first = placed top.rules idle nothing_held 1 zones
 
   abbrev second : Walk
-  second = placed top.rules first.held 2 conv
+  second = placed top.rules idle first.held 2 conv
 
   abbrev third : Walk
-  third = placed top.rules second.held 3 blocks
+  third = placed top.rules idle second.held 3 blocks
 
   walk_is : walk top.rules [] nothing_held three ≡ third
   walk_is =
-      ap (λ (w : Walk). walked top.rules [] (walked top.rules [] w conv) blocks) (value_walked top.rules nothing_held 1 zones is_zones)
-      ∙ ap (λ (w : Walk). walked top.rules [] w blocks) (value_walked top.rules first.held 2 conv is_conv)
-      ∙ value_walked top.rules second.held 3 blocks is_blocks
+      ap (λ (w : Walk). walked top.rules [] (walked top.rules [] w conv) blocks) (value_walked top.rules idle nothing_held 1 zones refl is_zones)
+      ∙ ap (λ (w : Walk). walked top.rules [] w blocks) (value_walked top.rules idle first.held 2 conv refl is_conv)
+      ∙ value_walked top.rules idle second.held 3 blocks refl is_blocks
 
   walk_goes : walk_passes top [] (walk_from nothing_held) three ≡ true
   unfolding walk_passes
   walk_goes =
-      value_goes top nothing_held 1 zones (conv ∷ blocks ∷ []) is_zones refl
-      (value_goes top first.held 2 conv (blocks ∷ []) is_conv refl
-      (value_goes top second.held 3 blocks [] is_blocks refl refl))
+      value_goes top idle nothing_held 1 zones (conv ∷ blocks ∷ []) refl is_zones refl
+      (value_goes top idle first.held 2 conv (blocks ∷ []) refl is_conv refl
+      (value_goes top idle second.held 3 blocks [] refl is_blocks refl refl))
 
   abbrev passes_at : Bool → Walk → Bool
   passes_at goes w =

@@ -1,11 +1,10 @@
 -- What stands in the places of a directory and options, by what `clap` finds.
-use Rattle.std.proofs.Common.{◌≡◌, ◌⊎◌, ◌∙◌, ℕ, Bool, true, false, List, Option, Some, None, IsSome, option_map, codes, inl, inr, refl, ap}
-use Rattle.std.specs.Borrow.{Bor}
-use Rattle.clap.specs.Words.{first_value, found_of, one_text}
+use Rattle.std.proofs.Common.{◌≡◌, ◌∙◌, ℕ, Bool, true, false, List, Option, Some, None, IsSome, option_map, codes, inl, inr, refl, ap}
+use Rattle.clap.specs.Words.{found_of, one_text}
 use Rattle.clap.specs.declared.ArgMatches.{ArgMatches}
 use Rattle.zn_words.specs.Parts.{Given, word_of}
 use Rattle.zn_words.specs.declared.flags.Flag.TheVariants.{Force}
-use Rattle.zn_words.specs.Found.{FlagFound, Found}
+use Rattle.zn_words.specs.Found.{FlagFound}
 
 -- what is given
 pub some_given : {X : Type 0} (o : Option X) → IsSome o → (x : X) × (o ≡ Some x)
@@ -13,9 +12,9 @@ some_given None there = absurd (cc there)
 some_given (Some x) there = (x, refl)
 
 -- a text that is there is lent
-pub is_lent : (lent : Option (Bor (List ℕ))) (text : Option (List ℕ)) (word : List ℕ) → option_map (λ s. s.now) lent ≡ text → text ≡ Some word → IsSome lent
-is_lent None text word is there = absurd (cc (is ∙ there))
-is_lent (Some s) text word is there = refl
+pub is_lent : {L T : Type 0} (f : L → T) (lent : Option L) (text : Option T) (word : T) → option_map f lent ≡ text → text ≡ Some word → IsSome lent
+is_lent f None text word is there = absurd (cc (is ∙ there))
+is_lent f (Some s) text word is there = refl
 
 -- a flag, by what is found of it
 pub flag_is : (found : ArgMatches) (set flag : Bool) → FlagFound found set

@@ -1,6 +1,6 @@
 -- How `clap` walks over the words of a command on a directory.
-use Rattle.std.proofs.Common.{◌≡◌, ◌∙◌, ℕ, ◌+◌, ◌≤◌, ◌==◌, ◌&&◌, ◌||◌, Bool, true, false, not, cond, nat_le, nat_lt, suc, List, [], ◌∷◌, ◌++◌, append_assoc, length, map, Option, Some, None, codes, refl, ap, ap₂, subst, sym, arith}
-use Rattle.std.specs.List.{count_by, fold, list_all}
+use Rattle.std.proofs.Common.{◌≡◌, ◌∙◌, ℕ, ◌+◌, ◌≤◌, ◌&&◌, ◌||◌, Bool, true, false, cond, suc, List, [], ◌∷◌, ◌++◌, append_assoc, length, map, Option, Some, None, codes, refl, ap, ap₂, subst, sym, arith}
+use Rattle.std.specs.List.{fold, list_all}
 use Rattle.std.specs.Option.{option_map_or}
 use Rattle.std.specs.Char.{encode_utf8}
 use Rattle.std.specs.Str.{bytes_eq, chars}
@@ -9,13 +9,14 @@ use Rattle.std.proofs.lemmas.List.{append-nil}
 use Rattle.std.proofs.lemmas.List.Sums.{sum_by-cons}
 use Rattle.clap.specs.Simple.{Shape}
 use Rattle.clap.specs.Takes.{flags_pass, react_passes, settle_passes, short_passes, step_passes, turn_passes, use_passes, walk_passes, word_passes}
-use Rattle.clap.specs.Walk.{Held, Row, Rule, Step, Text, Waiting, Walk, after_flag, after_step, arg_by_id, arg_by_index, arg_by_short, bundle_met, done, has_row, idle, is_pending, next, nothing_held, option, option_word, plain_word, positional, pushed, reading_by, settled, settled_rows, short_met, used, used_by_id, value, walk, walk_from, walked, word_met}
+use Rattle.clap.specs.Walk.{Held, Row, Rule, Step, Text, Waiting, Walk, after_flag, after_step, arg_by_short, bundle_met, done, has_row, idle, is_pending, next, nothing_held, option, option_word, pushed, reading_by, settled, settled_rows, short_met, used, used_by_id, value, walk, walk_from, walked, word_met}
 use Rattle.clap.specs.declared.parser.matches.ValueSource.TheVariants.{CommandLine}
 use Rattle.zn_words.specs.Parts.{Part, Alone, With, Other, begun, flag_of, is_fit, is_use, is_value, others_in, parts_from, parts_of, takes_value, uses, word_of}
 use Rattle.zn_words.specs.Clap.{letter_of}
 use Rattle.zn_words.specs.declared.flags.Flag.{Flag}
 use Rattle.zn_words.specs.declared.flags.Flag.TheVariants.{Force, Label, Uuid, Options}
 use Rattle.zn_words.proofs.Rows.{absent, count_rows, count_rows-push, new_row, row_added}
+use Rattle.zn_words.proofs.PlainValues.{between, standing, value_met, value_passes}
 use Rattle.zn_words.proofs.Rules.{by_letter, by_word, dir_built, flag_built, flag_word, rules, told}
 
 -- ---- where a walk stands
@@ -24,43 +25,15 @@ use Rattle.zn_words.proofs.Rules.{by_letter, by_word, dir_built, flag_built, fla
 abbrev pub held : List Row → Option (Text × List Text) → Held
 held rows pending = record { rows = rows; pending = pending; skip = 0 }
 
--- between two parts
-abbrev pub between : Held → ℕ → Walk
-between h position = record { held = h; waiting = idle; position = position; is_trailing = false; stopped = None }
-
 -- behind an option that waits for its value
 abbrev waits : Held → ℕ → Text → Walk
-waits h position id = record { held = h; waiting = option id; position = position; is_trailing = false; stopped = None }
+waits h position id = standing (option id) h position
 
 -- the row of a part
 abbrev pub row_for : Part → Row
 row_for (Alone flag) = new_row (word_of flag) (reading_by (flag_built flag)) CommandLine (codes "true" ∷ [])
 row_for (With flag word) = new_row (word_of flag) (reading_by (flag_built flag)) CommandLine (word ∷ [])
 row_for (Other word) = new_row (codes "DIR") (reading_by dir_built) CommandLine (word ∷ [])
-
--- ---- values
-
--- a value is no flag
-value_met : (c : List Rule) (waiting : Waiting) (position : ℕ) (word : Text) (h : Held) → is_value word ≡ true → word_met c [] false waiting position word h ≡ plain_word c waiting word h
-value_met c waiting position [] h is = absurd (cc is)
-value_met c waiting position (x ∷ xs) h is = go waiting (x == 45) refl is
-  where
-    go : (w : Waiting) (b : Bool) → (x == 45) ≡ b → not b ≡ true → word_met c [] false w position (x ∷ xs) h ≡ plain_word c w (x ∷ xs) h
-    go w true e n = absurd (cc n)
-    go idle false e n = simp e
-    go (option id) false e n = simp e
-    go positional false e n = simp e
-
--- and asks for nothing
-value_passes : (s : Shape) (waiting : Waiting) (word : Text) (h : Held) → is_value word ≡ true → word_passes s [] false waiting word h ≡ true
-value_passes s waiting [] h is = absurd (cc is)
-value_passes s waiting (x ∷ xs) h is = go waiting (x == 45) refl is
-  where
-    go : (w : Waiting) (b : Bool) → (x == 45) ≡ b → not b ≡ true → word_passes s [] false w (x ∷ xs) h ≡ true
-    go w true e n = absurd (cc n)
-    go idle false e n = simp e
-    go (option id) false e n = simp e
-    go positional false e n = simp e
 
 and_false : (b : Bool) → (b && false) ≡ false
 and_false true = refl

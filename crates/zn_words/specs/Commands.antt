@@ -1,5 +1,5 @@
 -- What the words of a command line ask for. (own)
-use Rattle.std.specs.Prelude.{ℕ, ◌&&◌, Bool, true, nat_le, List, [], ◌∷◌, length, option_and_then, option_map, if◌then◌else◌, Option, Some, None, Result, Ok, Err, codes}
+use Rattle.std.specs.Prelude.{ℕ, ◌&&◌, Bool, true, false, nat_le, List, [], ◌∷◌, length, option_and_then, option_map, if◌then◌else◌, Option, Some, None, Result, Ok, Err, codes}
 use Rattle.std.specs.List.{list_all}
 use Rattle.std.specs.Str.{bytes_eq}
 use Rattle.uuid.specs.Text.{parsed}
@@ -11,10 +11,8 @@ use Rattle.zn_lines.specs.declared.words.Scratch.{Scratch as ScratchWords}
 use Rattle.zn_lines.specs.Scratch.{command_of as scratch_in}
 use Rattle.zn_stand.specs.declared.numbers.Geometry.{Geometry}
 use Rattle.zn_keys.specs.Keys.{◌>>=◌, geometry_asked}
-use Rattle.zn_words.specs.Parts.{Given, given_in}
-use Rattle.zn_words.specs.Scratch.{are_values}
+use Rattle.zn_words.specs.Parts.{Given, given_in, is_value}
 use Rattle.zn_words.specs.declared.commands.TheConstants.{MOST_OPTIONS}
-use Rattle.zn_words.specs.declared.formatting.TheConstants.{MOST_FEATURES}
 use Rattle.zn_words.specs.declared.flags.Flag.{Flag}
 use Rattle.zn_words.specs.declared.flags.Flag.TheVariants.{Force, Label, Uuid, Options}
 
@@ -38,14 +36,18 @@ pub data Command : Type 0 where
 
 -- ---- `add DIR KEY=VALUE..`
 
--- a directory and one key or more, which ask for a device
+-- a directory and keys, which must ask for a device
 abbrev pub add_by : List (List ℕ) → Option Command
 add_by [] = None
 add_by (dir ∷ keys) = option_map (Add dir) (geometry_asked keys)
 
--- the words behind `add`, none of which is an option
+-- a directory and one key or more, none of them empty, and none that begins as an option does
+abbrev pub are_dir_and_keys : List (List ℕ) → Bool
+are_dir_and_keys words = nat_le 2 (length words) && list_all is_value words
+
+-- the words behind `add`
 abbrev pub add_of : List (List ℕ) → Option Command
-add_of words = if are_values (length words) words then add_by words else None
+add_of words = if are_dir_and_keys words then add_by words else None
 
 -- ---- `mkfs DIR [-f] [-L LABEL] [-U UUID] [-o FEATURES]`
 
@@ -71,7 +73,7 @@ accepted (Err error) = None
 -- the features that a word asks for; without one, those of a format that is told nothing
 abbrev pub features_in : Option (List ℕ) → Option FormatOpts
 features_in None = accepted (format_options [])
-features_in (Some word) = if nat_le (length word) MOST_FEATURES then accepted (format_options word) else None
+features_in (Some word) = accepted (format_options word)
 
 -- what a format is asked for by these words, if each of them can be read
 abbrev pub format_by : Bool → Option (List ℕ) → Option (List ℕ) → Option (List ℕ) → Option Format
@@ -137,3 +139,12 @@ dir_in (Scratch s) = None
 dir_in (Add dir geo) = Some dir
 dir_in (Mkfs dir format) = Some dir
 dir_in (Running dir options) = Some dir
+
+-- whether the first word names the command that works on no directory
+abbrev pub is_in_memory : List (List ℕ) → Bool
+is_in_memory [] = false
+is_in_memory (name ∷ words) = bytes_eq name (codes "scratch")
+
+-- the directory that words name, where they are a command on one
+abbrev pub dir_asked : List (List ℕ) → Option (List ℕ)
+dir_asked words = option_and_then dir_in (command_of words)

@@ -8,7 +8,8 @@ use Rattle.zn_words.specs.declared.flags.Flag.TheVariants.{Force, Label, Uuid, O
 -- what is found of a flag that is set, and of one that isn't: nothing, or its default
 abbrev pub FlagFound : ArgMatches → Bool → Type 0
 FlagFound found true = one_text (found_of found) (word_of Force) ≡ Some (codes "true")
-FlagFound found false = (one_text (found_of found) (word_of Force) ≡ None) ⊎ (one_text (found_of found) (word_of Force) ≡ Some (codes "false"))
+FlagFound found false =
+    (one_text (found_of found) (word_of Force) ≡ None) ⊎ (one_text (found_of found) (word_of Force) ≡ Some (codes "false"))
 
 -- Each place has what is given.
 pub record Found (found : ArgMatches) (given : Given) : Type 0 where

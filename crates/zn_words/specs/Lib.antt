@@ -6,3 +6,4 @@ pub mod Placed
 pub mod Commands
 pub mod CommandsMeant
 pub mod Scratch
+pub mod KeyPlaces

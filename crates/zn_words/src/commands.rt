@@ -1,6 +1,6 @@
 // What the words of a command line ask for.
-ghost use Rattle.std.specs.Prelude.{◌≡◌, IfOk, IfSome, IsSome, OnErr, map, option_and_then, option_map, string_bytes};
-ghost use Rattle.zn_words.specs.Commands.{command_of, dir_in, in_memory};
+ghost use Rattle.std.specs.Prelude.{◌≡◌, IfOk, IfSome, IsSome, OnErr, map, option_map, string_bytes};
+ghost use Rattle.zn_words.specs.Commands.{command_of, dir_asked, dir_in, in_memory, is_in_memory};
 ghost use Rattle.zn_words.specs.CommandsMeant.{IsAccepted, command_meant};
 ghost use Rattle.zn_words.specs.Scratch.{scratch_of};
 
@@ -64,7 +64,7 @@ pub fn parse<'a>(alloc: Global, words: &'a [String]) -> Result<Option<Command<'a
     };
     match name.as_str() {
         "scratch" => scratch(alloc, words),
-        "add" => Ok(adding::parse(words)),
+        "add" => adding::parse(alloc, words),
         "mkfs" => formatting::parse(alloc, words),
         "run" => running::parse(alloc, words),
         _ => Ok(None),
@@ -81,12 +81,26 @@ fn dir_in<'a>(command: &Command<'a>) -> Option<&'a str>
     }
 }
 
-/// A copy of the directory that words name, if they are a command line that works on one. Want of memory is told only
-/// of words that are a command line.
-pub fn dir_of(alloc: Global, words: &[String]) -> Result<Option<Text>, AllocError>
-    ensures dir { IfOk result (λ dir. dir ≡ option_and_then dir_in (command_of (map string_bytes words.now))) }
-    ensures memory { OnErr result (IsSome (command_of (map string_bytes words.now))) }
+/// Whether the first word is that of the command that works on no directory.
+fn is_in_memory(words: &[String]) -> bool
+    ensures { result ≡ is_in_memory (map string_bytes words.now) }
 {
+    match words {
+        [name, ..] => name.as_str() == "scratch",
+        [] => false,
+    }
+}
+
+/// A copy of the directory that words name, if they are a command line that works on one. Want of memory is told only
+/// of words that name one.
+#[tactic(auto, using(crate::proofs::Dirs::in_memory_names_none, crate::proofs::Dirs::others_name_one))]
+pub fn dir_of(alloc: Global, words: &[String]) -> Result<Option<Text>, AllocError>
+    ensures dir { IfOk result (λ dir. dir ≡ dir_asked (map string_bytes words.now)) }
+    ensures memory { OnErr result (IsSome (dir_asked (map string_bytes words.now))) }
+{
+    if is_in_memory(words) {
+        return Ok(None);
+    }
     let dir = match parse(alloc, words) {
         Ok(Some(command)) => dir_in(&command),
         Ok(None) => None,

@@ -1,6 +1,8 @@
 // The words of `mkfs`, but for that name.
-ghost use Rattle.std.specs.Prelude.{◌≡◌, ◌≤◌, IfOk, IfSome, IsSome, OnErr, map, option_copied, option_map, string_bytes};
-ghost use Rattle.zn_words.specs.Commands.{features_in, format_by, label_in, mkfs_of, uuid_in};
+ghost use Rattle.std.specs.Prelude.{◌≡◌, ◌≤◌, IfOk, IfSome, IsSome, OnErr};
+ghost use Rattle.std.specs.Prelude.{map, option_copied, option_map, string_bytes};
+ghost use Rattle.zn_model.specs.Options.{format_options};
+ghost use Rattle.zn_words.specs.Commands.{accepted, features_in, format_by, label_in, mkfs_of, uuid_in};
 ghost use Rattle.zn_words.specs.CommandsMeant.{IsAccepted, command_meant, format_meant};
 
 use crate::commands::{Command, Format};
@@ -15,9 +17,6 @@ use zn_super::Label;
 
 /// Its options.
 const FLAGS: [Flag; 4] = [Flag::Force, Flag::Label, Flag::Uuid, Flag::Options];
-
-/// The longest features, in bytes: those of a line of a script.
-const MOST_FEATURES: usize = 65_536;
 
 /// The label that a word is; without one, the empty label.
 fn label_in(word: Option<&str>) -> Option<Label>
@@ -42,19 +41,27 @@ fn uuid_in(word: Option<&str>) -> Option<Option<[u8; 16]>>
     }
 }
 
+/// The features that a text asks for. One of more bytes than 32 bits count, as its places must be, has an item that is
+/// none.
+fn features_of(text: &[u8]) -> Option<FormatOpts>
+    ensures value { result ≡ accepted (format_options text.now) }
+    ensures small { IfSome result (λ opts. opts.perm ≤ 0o777) }
+{
+    if text.len() > u32::MAX as usize {
+        return None;
+    }
+    format_opts(text).ok()
+}
+
 /// The features that a word asks for; without one, those of a format that is told nothing.
 fn features_in(word: Option<&str>) -> Option<FormatOpts>
     ensures value { result ≡ features_in (option_copied word.entry) }
     ensures small { IfSome result (λ opts. opts.perm ≤ 0o777) }
 {
-    let text = match word {
-        Some(word) => word.as_bytes(),
-        None => b"",
-    };
-    if text.len() > MOST_FEATURES {
-        return None;
+    match word {
+        Some(word) => features_of(word.as_bytes()),
+        None => features_of(b""),
     }
-    format_opts(text).ok()
 }
 
 /// What a format is asked for by these words, if each of them can be read.

@@ -14,4 +14,6 @@ mod values;
 pub use commands::{Command, Format, MOST_OPTIONS, dir_of, parse};
 
 #[cfg(test)]
+mod borders;
+#[cfg(test)]
 mod tests;

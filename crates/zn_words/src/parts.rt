@@ -1,7 +1,8 @@
 // The parts of the words behind a command's name.
 ghost use Rattle.std.specs.Prelude.{◌≡◌, ◌<◌, ◌^◌, is_some, length, map, option_map, string_bytes};
 ghost use Rattle.std.specs.Iterator.{YieldsFirstBy, item_count};
-ghost use Rattle.zn_words.specs.Parts.{given_in, has_form, is_fit, is_use, other_of, others_in, parts_of, uses, value_by, value_of};
+ghost use Rattle.zn_words.specs.Parts.{given_in, has_form, is_fit, is_use, other_of, others_in, parts_of};
+ghost use Rattle.zn_words.specs.Parts.{uses, value_by, value_of};
 
 use crate::flags::{Flag, flag_of};
 use crate::values::is_value;
@@ -88,7 +89,8 @@ impl<'a> Parts<'a> {
 
     /// The next word, as the value of an option. It is empty where the words end.
     fn next_value(&mut self) -> &'a str
-        ensures { (flag : Flag) → parts_from self.old.flags.now (map string_bytes (iter_rest self.old.words)) (Some flag)
+        ensures { (flag : Flag)
+            → parts_from self.old.flags.now (map string_bytes (iter_rest self.old.words)) (Some flag)
             ≡ With flag result.now ∷ parts_left self.new }
     {
         match self.words.next() {

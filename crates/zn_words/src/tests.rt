@@ -1,4 +1,4 @@
-use crate::{Command, dir_of, parse};
+use crate::{Command, Format, dir_of, parse};
 use std::alloc::Global;
 use std::process::Abort;
 use std::test::Fail;
@@ -164,84 +164,74 @@ fn words_of(alloc: Global, text: &str) -> Result<Vec<String>, Fail> {
     Ok(words)
 }
 
-/// The directory that these words work on is `D`.
-fn works_on_d(rt: &impl Abort, alloc: Global, words: &[String]) -> Result<(), Fail> {
-    match dir_of(alloc, words)? {
-        Some(dir) => assert_eq!(rt; dir.as_bytes(), b"D".as_slice()),
-        None => panic!(rt; "no directory"),
-    }
-    Ok(())
-}
-
-/// The words ask for nothing, and name no directory.
-fn is_refused(rt: &impl Abort, alloc: Global, words: &[String]) -> Result<(), Fail> {
-    match parse(alloc, words) {
-        Ok(None) => {}
-        _ => panic!(rt; "{words:?}"),
-    }
-    assert!(rt; dir_of(alloc, words)?.is_none(), "{words:?}");
-    Ok(())
-}
-
-/// The words ask for this device in memory, and name no directory.
-fn is_scratch(rt: &impl Abort, alloc: Global, text: &str, want: Scratch) -> Result<(), Fail> {
-    let words = words_of(alloc, text)?;
-    match parse(alloc, &words) {
-        Ok(Some(Command::Scratch(got))) => assert_eq!(rt; got, want, "{text}"),
-        _ => panic!(rt; "{text}"),
-    }
-    assert!(rt; dir_of(alloc, &words)?.is_none(), "{text}");
-    Ok(())
-}
-
-/// The words add this device in `D`.
-fn is_add(rt: &impl Abort, alloc: Global, text: &str, want: Geometry) -> Result<(), Fail> {
-    let words = words_of(alloc, text)?;
-    match parse(alloc, &words) {
-        Ok(Some(Command::Add(dir, got))) => {
-            assert_eq!(rt; dir, "D", "{text}");
-            assert_eq!(rt; got, want, "{text}");
-        }
-        _ => panic!(rt; "{text}"),
-    }
-    works_on_d(rt, alloc, &words)
-}
-
-/// The words run a script on `D`, with these options.
-fn is_run(rt: &impl Abort, alloc: Global, text: &str, want: Option<&str>) -> Result<(), Fail> {
-    let words = words_of(alloc, text)?;
-    match parse(alloc, &words) {
-        Ok(Some(Command::Run(dir, got))) => {
-            assert_eq!(rt; dir, "D", "{text}");
-            assert_eq!(rt; got, want, "{text}");
-        }
-        _ => panic!(rt; "{text}"),
-    }
-    works_on_d(rt, alloc, &words)
-}
-
-/// The words format `D`, by this label, identifier and these features, over a device that is formatted if `force`.
-fn is_mkfs(
+/// Words name this directory, or none.
+fn names_dir(
     rt: &impl Abort,
     alloc: Global,
-    text: &str,
-    force: bool,
-    label: &[u8],
-    uuid: Option<[u8; 16]>,
-    opts: FormatOpts,
+    words: &[String],
+    dir: Option<&str>,
 ) -> Result<(), Fail> {
+    let named = dir_of(alloc, words)?;
+    assert_eq!(rt;
+        named.as_ref().map(|dir| dir.as_bytes()),
+        dir.map(|dir| dir.as_bytes()),
+        "{words:?}"
+    );
+    Ok(())
+}
+
+/// Words are no command line, and name no directory.
+fn is_refused(rt: &impl Abort, alloc: Global, words: &[String]) -> Result<(), Fail> {
+    match parse(alloc, words) {
+        Ok(None) => names_dir(rt, alloc, words, None),
+        _ => panic!(rt; "{words:?}"),
+    }
+}
+
+/// Words ask for this device in memory.
+fn is_scratch(rt: &impl Abort, alloc: Global, text: &str, asked: Scratch) -> Result<(), Fail> {
     let words = words_of(alloc, text)?;
     match parse(alloc, &words) {
-        Ok(Some(Command::Mkfs(dir, got))) => {
+        Ok(Some(Command::Scratch(scratch))) => assert_eq!(rt; scratch, asked, "{text}"),
+        _ => panic!(rt; "{text}"),
+    }
+    names_dir(rt, alloc, &words, None)
+}
+
+/// Words add this device in the directory `D`.
+fn is_add(rt: &impl Abort, alloc: Global, text: &str, asked: Geometry) -> Result<(), Fail> {
+    let words = words_of(alloc, text)?;
+    match parse(alloc, &words) {
+        Ok(Some(Command::Add(dir, geo))) => assert_eq!(rt; (dir, geo), ("D", asked), "{text}"),
+        _ => panic!(rt; "{text}"),
+    }
+    names_dir(rt, alloc, &words, Some("D"))
+}
+
+/// Words format the device in the directory `D` so.
+fn is_mkfs(rt: &impl Abort, alloc: Global, text: &str, asked: Format) -> Result<(), Fail> {
+    let words = words_of(alloc, text)?;
+    match parse(alloc, &words) {
+        Ok(Some(Command::Mkfs(dir, format))) => {
             assert_eq!(rt; dir, "D", "{text}");
-            assert_eq!(rt; got.force, force, "{text}");
-            assert_eq!(rt; Some(got.label), Label::new(label), "{text}");
-            assert_eq!(rt; got.uuid, uuid, "{text}");
-            assert_eq!(rt; got.opts, opts, "{text}");
+            assert!(rt; format == asked, "{text}");
         }
         _ => panic!(rt; "{text}"),
     }
-    works_on_d(rt, alloc, &words)
+    names_dir(rt, alloc, &words, Some("D"))
+}
+
+/// Words run a script on the device in the directory `D`, with these options.
+fn is_run(rt: &impl Abort, alloc: Global, text: &str, asked: Option<&str>) -> Result<(), Fail> {
+    let words = words_of(alloc, text)?;
+    match parse(alloc, &words) {
+        Ok(Some(Command::Run(dir, options))) => {
+            assert_eq!(rt; dir, "D", "{text}");
+            assert_eq!(rt; options, asked, "{text}");
+        }
+        _ => panic!(rt; "{text}"),
+    }
+    names_dir(rt, alloc, &words, Some("D"))
 }
 
 #[test]
@@ -249,7 +239,8 @@ fn other_words_are_no_command(rt: HostRuntime) -> Result<(), Fail> {
     let alloc = rt.alloc();
     is_refused(&rt, alloc, &[])?;
     for text in REFUSED {
-        is_refused(&rt, alloc, &words_of(alloc, text)?)?;
+        let words = words_of(alloc, text)?;
+        is_refused(&rt, alloc, &words)?;
     }
     Ok(())
 }
@@ -312,39 +303,48 @@ fn scripts_are_run(rt: HostRuntime) -> Result<(), Fail> {
 
 #[test]
 fn devices_are_formatted(rt: HostRuntime) -> Result<(), Fail> {
-    for (text, force, label) in [
-        ("mkfs D", false, ""),
-        ("mkfs -f D", true, ""),
-        ("mkfs D -f", true, ""),
-        ("mkfs -L a D", false, "a"),
-        ("mkfs D -L a", false, "a"),
-    ] {
-        is_mkfs(&rt, rt.alloc(), text, force, label.as_bytes(), None, OPTS)?;
-    }
-    Ok(())
-}
-
-#[test]
-fn identifiers_are_given(rt: HostRuntime) -> Result<(), Fail> {
-    for text in [
-        "mkfs D -U 11111111-1111-1111-1111-111111111111",
-        "mkfs D -U urn:uuid:11111111-1111-1111-1111-111111111111",
-        "mkfs -U 11111111111111111111111111111111 D",
-    ] {
-        is_mkfs(&rt, rt.alloc(), text, false, b"", Some([0x11; 16]), OPTS)?;
-    }
-    Ok(())
-}
-
-#[test]
-fn features_are_given(rt: HostRuntime) -> Result<(), Fail> {
+    let label = Label::new(b"a").unwrap_or(Label::empty());
+    let uuid = Some([0x11; 16]);
     let opts = FormatOpts {
         aggr_cnv: true,
         uid: 7,
         gid: 8,
         perm: 0o600,
     };
-    let text =
+    let plain = Label::empty();
+    let urn = "mkfs D -U urn:uuid:11111111-1111-1111-1111-111111111111";
+    let whole =
         "mkfs -o aggr_cnv,uid=7,gid=8,perm=600 -U 11111111111111111111111111111111 D -L a -f";
-    is_mkfs(&rt, rt.alloc(), text, true, b"a", Some([0x11; 16]), opts)
+    for (text, force, label, uuid, opts) in [
+        ("mkfs D", false, plain, None, OPTS),
+        ("mkfs -f D", true, plain, None, OPTS),
+        ("mkfs D -f", true, plain, None, OPTS),
+        ("mkfs -L a D", false, label, None, OPTS),
+        ("mkfs D -L a", false, label, None, OPTS),
+        (
+            "mkfs D -U 11111111-1111-1111-1111-111111111111",
+            false,
+            plain,
+            uuid,
+            OPTS,
+        ),
+        (urn, false, plain, uuid, OPTS),
+        (
+            "mkfs -U 11111111111111111111111111111111 D",
+            false,
+            plain,
+            uuid,
+            OPTS,
+        ),
+        (whole, true, label, uuid, opts),
+    ] {
+        let format = Format {
+            force,
+            label,
+            uuid,
+            opts,
+        };
+        is_mkfs(&rt, rt.alloc(), text, format)?;
+    }
+    Ok(())
 }

@@ -1,4 +1,4 @@
-use Rattle.std.proofs.Common.{◌≡◌, ◌∙◌, true, false, map, is_some, string_bytes, sym, ap, Global}
+use Rattle.std.proofs.Common.{◌∙◌, map, is_some, string_bytes, sym, ap, Global}
 use Rattle.zn_words.specs.Commands.{mkfs_of}
 use Rattle.zn_words.specs.CommandsMeant.{format_meant}
 use Rattle.zn_words.proofs.Formats.{format_by_values, is_some-mapped, not_some}

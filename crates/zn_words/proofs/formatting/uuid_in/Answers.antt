@@ -1,4 +1,4 @@
-use Rattle.std.proofs.Common.{◌≡◌, Option, Some, None, option_map, refl, ap, sym}
+use Rattle.std.proofs.Common.{◌≡◌, Option, Some, None, refl}
 use Rattle.uuid.specs.Text.{parsed}
 use Rattle.zn_words.proofs.formatting.uuid_in.Goals as goal
 

@@ -1,4 +1,4 @@
-use Rattle.std.proofs.Common.{◌≡◌, ◌∙◌, ap, arith, inl, is_some, length, map, string_bytes, Global, rules, tests}
+use Rattle.std.proofs.Common.{◌∙◌, ap, arith, inl, is_some, length, map, string_bytes, Global, rules, tests}
 use Rattle.std.proofs.lemmas.Iterator.Consumers.{YieldsList-from_filter, YieldsList-from_first, count_from_yields_List}
 use Rattle.std.proofs.lemmas.List.Sums.{length-filter}
 use Rattle.zn_words.specs.Meant.{part_meant, parts_left}

@@ -1,4 +1,4 @@
-use Rattle.std.proofs.Common.{◌≡◌, ◌∙◌, ℕ, Bool, List, Option, Some, map, option_map, string_bytes, codes, sym, ap, Global}
+use Rattle.std.proofs.Common.{◌≡◌, ◌∙◌, Some, map, string_bytes, codes, sym, ap, Global}
 use Rattle.std.proofs.lemmas.Option.{same_Some}
 use Rattle.clap.specs.Words.{first_value, found_of}
 use Rattle.zn_words.specs.Parts.{Given, given_in}
@@ -8,7 +8,7 @@ use Rattle.zn_words.proofs.places.read.Goals as goal
 pub unwrap-requires : goal.unwrap-requires
 unwrap-requires c =
     let given = some_given (given_in c.args.flags.now (map (string_bytes {Z = Global}) c.args.words.now)) c.requires in
-    is_lent c.get_str.result _ _ c.get_str.ensures (c.in-Ok.ensures.found given.0 given.1).dir
+    is_lent _ c.get_str.result _ _ c.get_str.ensures (c.in-Ok.ensures.found given.0 given.1).dir
 
 pub returns : goal.returns
 returns c =
