@@ -40,6 +40,19 @@ struct Fails {
     sync: Option<u64>,
 }
 
+/// A command ended with this status, and wrote this.
+pub(super) fn agrees(
+    rt: &impl Abort,
+    words: &str,
+    ended: Status,
+    bytes: &[u8],
+    status: Status,
+    written: &str,
+) {
+    assert_eq!(rt; bytes, written.as_bytes(), "{words}: {written}");
+    assert_eq!(rt; ended, status, "{words}: {written}");
+}
+
 /// Carries out a command on a directory, which is given back, while some calls fail.
 fn follow_failing<R: Abort + Copy>(
     rt: R,
@@ -57,28 +70,17 @@ fn follow_failing<R: Abort + Copy>(
     let mut source = source_of(alloc, case.script.as_bytes(), fails.reads)?;
     let mut sink = MemSink::new(alloc, ROOM, Vec::from_slice(alloc, fails.writes)?)?;
     let ended = zonefs_main(alloc, &list, ENTROPY, &mut source, files, &mut sink);
-    assert_eq!(&rt;
-        sink.bytes(),
-        case.written.as_bytes(),
-        "{}: {}",
+    agrees(
+        &rt,
         case.words,
-        case.script
-    );
-    assert_eq!(&rt;
         ended.status,
+        sink.bytes(),
         case.status,
-        "{}: {}",
-        case.words, case.script
+        case.written,
     );
     // A source that isn't read counts no fault.
     let reads = matches!(case.status, Status::ReadFault);
-    assert_eq!(&rt;
-        source.faults() != 0,
-        reads,
-        "{}: {}",
-        case.words,
-        case.script
-    );
+    assert_eq!(&rt; source.faults() != 0, reads);
     Ok(ended.files)
 }
 

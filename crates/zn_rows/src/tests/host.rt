@@ -1,6 +1,6 @@
 // Commands on a directory of the host.
 
-use super::directories::day;
+use super::directories::{agrees, day};
 use super::{Case, ENTROPY, ROOM, source_of, words_of};
 use std::fs;
 use std::process::Abort;
@@ -21,18 +21,13 @@ fn ends_there(host: HostRuntime, rt: &impl Abort, case: Case) -> Result<(), Fail
     let mut sink = MemSink::new(alloc, ROOM, Vec::new(alloc))?;
     let files = HostFiles::new(host, alloc, Text::new(alloc, PATH.as_bytes())?);
     let ended = zonefs_main(alloc, &list, ENTROPY, &mut source, files, &mut sink);
-    assert_eq!(rt;
-        sink.bytes(),
-        case.written.as_bytes(),
-        "{}: {}",
+    agrees(
+        rt,
         case.words,
-        case.script
-    );
-    assert_eq!(rt;
         ended.status,
+        sink.bytes(),
         case.status,
-        "{}: {}",
-        case.words, case.script
+        case.written,
     );
     Ok(())
 }
