@@ -10,7 +10,7 @@ pub const LAST_NUMBER: u32 = 2047;
 pub const LINE_LIMIT: usize = 65536;
 
 /// The most bytes of a script. A line's newline must lie within them.
-pub const SCRIPT_LIMIT: usize = 16_777_216;
+pub const SCRIPT_LIMIT: usize = 4_294_967_296;
 
 /// The most blocks of all zones of a device in memory: 256 MiB.
 pub const SCRATCH_BLOCKS: u32 = 65536;

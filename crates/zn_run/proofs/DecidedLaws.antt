@@ -9,6 +9,7 @@ use Rattle.zn_lines.specs.Grammar.{reading_of}
 use Rattle.zn_lines.specs.Table.{Table}
 use Rattle.zn_lines.specs.Session.{line_step}
 use Rattle.zn_lines.specs.Transcript.{Transcript, stop, with_text, first_given, more_given, line_then, transcript_from, pieces, transcript_at, is_newline, IsDecided}
+use Rattle.zn_run.specs.Statuses.{IsScriptFault}
 use Rattle.zn_run.proofs.TranscriptLaws.{some_piece}
 
 -- the last piece goes on, and others follow
@@ -73,3 +74,24 @@ unfolding pieces
 decided_stays givens tail table n bytes more decided =
     let s = some_piece more in
     ap (transcript_from givens tail table n) (split_extended bytes more s.0 s.1 s.2) ∙ pieces_stay givens (slice_split is_newline bytes) tail table n s.0 s.1 decided
+
+-- ---- endings where no more is known
+
+last_fault : (table : Table) (n : ℕ) (long : Bool) → IsScriptFault (cond long (stop table (LineTooLong n)) (stop table Unread)).ending → IsDecided (cond long (stop table (LineTooLong n)) (stop table Unread)).ending
+last_fault table n true fault = tt
+last_fault table n false fault = absurd fault
+
+line_fault : (given : List ℕ) (table : Table) (n : ℕ) (reading : Result (Option Line) ℕ) (long : Bool) (f : Table → Transcript) → ((x : Table) → IsScriptFault (f x).ending → IsDecided (f x).ending)
+    → IsScriptFault (cond long (stop table (LineTooLong n)) (line_then given reading table n f)).ending → IsDecided (cond long (stop table (LineTooLong n)) (line_then given reading table n f)).ending
+line_fault given table n reading true f so fault = tt
+line_fault given table n (Err column) false f so fault = tt
+line_fault given table n (Ok None) false f so fault = so table fault
+line_fault given table n (Ok (Some line)) false f so fault = so (line_step given table line).table fault
+
+-- where the script ended the run and no more is known of what follows, no bytes behind matter
+pub fault_decided : (givens : List (List ℕ)) (parts : List (List ℕ)) (table : Table) (n : ℕ) → IsScriptFault (transcript_from givens More table n parts).ending → IsDecided (transcript_from givens More table n parts).ending
+unfolding transcript_from
+fault_decided givens [] table n fault = absurd fault
+fault_decided givens (piece ∷ []) table n fault = last_fault table n (ltb 65536 (length piece)) fault
+fault_decided givens (line ∷ piece ∷ parts) table n fault =
+    line_fault (first_given givens) table n (reading_of line) (ltb 65536 (length line)) (λ x. transcript_from (more_given givens) More x (n + 1) (piece ∷ parts)) (λ x. fault_decided (more_given givens) (piece ∷ parts) x (n + 1)) fault

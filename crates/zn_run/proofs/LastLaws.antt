@@ -3,9 +3,9 @@ use Rattle.std.proofs.Common.{◌≡◌, ℕ, ◌<◌, ◌≤◌, false, List, [
 use Rattle.std.proofs.lemmas.List.{append-nil, nil_from_length}
 use Rattle.zn_base.specs.States.{SinkState}
 use Rattle.zn_lines.specs.declared.runs.Tail.{Tail}
-use Rattle.zn_lines.specs.declared.runs.Tail.TheVariants.{End}
+use Rattle.zn_lines.specs.declared.runs.Tail.TheVariants.{End, Fault}
 use Rattle.zn_lines.specs.declared.runs.Ending.{Ending}
-use Rattle.zn_lines.specs.declared.runs.Ending.TheVariants.{Finished, BadLine as is_bad, LineTooLong}
+use Rattle.zn_lines.specs.declared.runs.Ending.TheVariants.{Finished, BadLine as is_bad, LineTooLong, ReadFailed}
 use Rattle.zn_lines.specs.Lines.{Line}
 use Rattle.zn_lines.specs.Grammar.{reading_of}
 use Rattle.zn_lines.specs.Table.{Table}
@@ -15,15 +15,16 @@ use Rattle.zn_run.specs.Endings.{out_of_memory, host_fault}
 use Rattle.zn_run.specs.Headline.{Closed, RanGiven, Ran}
 use Rattle.zn_run.specs.Progress.{IsNext, StoppedBy}
 use Rattle.zn_run.specs.States.{MachineState, State, state_of, Added}
-use Rattle.zn_run.specs.Statuses.{EndsBy}
+use Rattle.zn_run.specs.Script.{IsNear}
+use Rattle.zn_run.specs.Statuses.{IsScriptFault, line_of}
 use Rattle.zn_run.specs.Steps.{DoneBy, Stepped}
 use Rattle.zn_run.specs.declared.machine.Step.{Step}
 use Rattle.zn_run.specs.declared.machine.Step.TheVariants.{Done as done_step, BadLine, Broken, SinkFault as cut_step, Memory as starved_step}
 use Rattle.zn_run.specs.declared.status.Status.{Status}
-use Rattle.zn_run.specs.declared.status.Status.TheVariants.{Done, Script, HostFault, WriteFault, Memory}
+use Rattle.zn_run.specs.declared.status.Status.TheVariants.{Done, Script, HostFault, ReadFault as unread, WriteFault, Memory}
 use Rattle.zn_run.proofs.TranscriptLaws.{line_long, last_is}
 use Rattle.zn_run.proofs.LineLaws.{added_none, reached_here, first_line_last}
-use Rattle.zn_run.proofs.RanLaws.{whole_along, given_of, closes, comes_ended, ran_done, ran_starved, ran_broken, ran_cut}
+use Rattle.zn_run.proofs.RanLaws.{whole_along, given_of, closes, given_ended, comes_script, ran_done, ran_starved, ran_broken, ran_cut}
 
 -- ---- the transcript
 
@@ -86,11 +87,11 @@ stopped_last {step = step} {old = old} {new = new} {line = line} n goes_on one s
 pub last_bad : {result : Status} {old : State} {line : List ℕ} {machine : MachineState} {sink sink' : SinkState} {column : ℕ} (n : ℕ) → old.machine.over ≡ false → OneLine line → 0 < length line → length line ≤ 65536
     → Stepped (BadLine column) (reading_of line) old (state_of machine sink) → Closed result Script (last_line (is_bad n column)) sink sink' → Ran result End n line old (state_of machine sink')
 last_bad {old = old} {line = line} {column = column} n goes_on one some fits s c =
-    closes (comes_ended Script End (is_bad n column) (reached_here old n line goes_on) tt (λ givens. read_is givens old.machine.table n line (Err column) one some fits s.means.reads) s.means.unmoved) c
+    closes (comes_script End (is_bad n column) (reached_here old n line goes_on) tt refl (omega (arith, fits)) (λ givens. read_is givens old.machine.table n line (Err column) one some fits s.means.reads) s.means.unmoved) c
 
 pub last_broken : {result : Status} {old : State} {line : List ℕ} {machine : MachineState} {sink sink' : SinkState} (n : ℕ) → old.machine.over ≡ false → OneLine line → 0 < length line → length line ≤ 65536
     → Stepped Broken (reading_of line) old (state_of machine sink) → Closed result HostFault (host_fault n) sink sink' → Ran result End n line old (state_of machine sink')
-last_broken n goes_on one some fits s c = ran_broken (record { stopped = stopped_last n goes_on one some fits s s.means.line s.means.reads; numbered = refl }) c
+last_broken n goes_on one some fits s c = ran_broken (omega (arith, fits)) (record { stopped = stopped_last n goes_on one some fits s s.means.line s.means.reads; numbered = refl }) c
 
 pub last_cut : {old new : State} {line : List ℕ} (n : ℕ) → old.machine.over ≡ false → OneLine line → 0 < length line → length line ≤ 65536 → Stepped cut_step (reading_of line) old new → Ran WriteFault End n line old new
 last_cut n goes_on one some fits s = ran_cut (stopped_last n goes_on one some fits s s.means.line s.means.reads)
@@ -108,8 +109,14 @@ none_left {tail = tail} old n rest one fits is empty =
     (whole_along (tail_is [] tail End old.machine.table n rest one fits is ∙ none_is [] old.machine.table n rest empty)
     (record { ends = (is, refl); last = refl; table = refl; breaks = refl; spoilt = refl; replies = added_none old.sink })))
 
--- the run ends before the rest
-pub ended_here : {result status : Status} {tail : Tail} {machine : MachineState} {sink sink' : SinkState} (n : ℕ) (rest : List ℕ) (by : Ending) → machine.over ≡ false → EndsBy status tail by
-    → ((givens : List (List ℕ)) → transcript_at givens tail machine.table n rest ≡ stop machine.table by) → Closed result status (last_line by) sink sink' → Ran result tail n rest (state_of machine sink) (state_of machine sink')
-ended_here {status = status} {tail = tail} {machine = machine} {sink = sink} n rest by goes_on ends is c =
-    closes (comes_ended status tail by (reached_here (state_of machine sink) n rest goes_on) ends is (record { table = refl; breaks = refl; spoilt = refl; sink = refl })) c
+-- the script ends the run before the rest
+pub script_here : {result : Status} {tail : Tail} {machine : MachineState} {sink sink' : SinkState} (n : ℕ) (rest : List ℕ) (by : Ending) → machine.over ≡ false → IsNear tail rest → IsScriptFault by → line_of by ≡ Some n
+    → ((givens : List (List ℕ)) → transcript_at givens tail machine.table n rest ≡ stop machine.table by) → Closed result Script (last_line by) sink sink' → Ran result tail n rest (state_of machine sink) (state_of machine sink')
+script_here {tail = tail} {machine = machine} {sink = sink} n rest by goes_on near is_fault numbered is c =
+    closes (comes_script tail by (reached_here (state_of machine sink) n rest goes_on) is_fault numbered near is (record { table = refl; breaks = refl; spoilt = refl; sink = refl })) c
+
+-- a read failed behind the rest
+pub unread_here : {result : Status} {tail : Tail} {machine : MachineState} {sink sink' : SinkState} (n : ℕ) (rest : List ℕ) → machine.over ≡ false → tail ≡ Fault
+    → ((givens : List (List ℕ)) → transcript_at givens tail machine.table n rest ≡ stop machine.table ReadFailed) → Closed result unread (last_line ReadFailed) sink sink' → Ran result tail n rest (state_of machine sink) (state_of machine sink')
+unread_here {tail = tail} {machine = machine} {sink = sink} n rest goes_on is_tail is c =
+    closes (given_ended unread tail ReadFailed (reached_here (state_of machine sink) n rest goes_on) (is_tail, refl) is (record { table = refl; breaks = refl; spoilt = refl; sink = refl })) c

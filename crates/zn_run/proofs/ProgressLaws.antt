@@ -99,6 +99,7 @@ pub halt_bad : {old mid new : State} {first : ℕ} {script line : List ℕ} {at 
 halt_bad {mid = mid} {script = script} {line = line} {at = at} {len = len} {number = number} {column = column} p n fits b tail = record {
   reached = standing script at p;
   is_fault = tt;
+  numbered = refl;
   ends = λ givens. ap (transcript_at givens tail mid.machine.table number) n.is ∙ line_bad givens tail mid.machine.table number column line (drop (at + (len + 1)) script) n.one fits b.means.reads;
   unmoved = b.means.unmoved;
 }
@@ -108,6 +109,7 @@ pub halt_long : {old mid : State} {first : ℕ} {script line : List ℕ} {at len
 halt_long {mid = mid} {script = script} {line = line} {at = at} {len = len} {number = number} p n long tail = record {
   reached = standing script at p;
   is_fault = tt;
+  numbered = refl;
   ends = λ givens. ap (transcript_at givens tail mid.machine.table number) n.is ∙ line_long givens tail mid.machine.table number line (10 ∷ drop (at + (len + 1)) script) n.one long;
   unmoved = record { table = refl; breaks = refl; spoilt = refl; sink = refl };
 }

@@ -1,5 +1,5 @@
 -- What a run of some bytes did: behind the lines before, and by its last line.
-use Rattle.std.proofs.Common.{◌≡◌, ◌≢◌, ℕ, Bool, true, false, List, [], ◌++◌, take, refl, ap, sym, subst, ◌∙◌, inl, inr}
+use Rattle.std.proofs.Common.{◌≡◌, ℕ, Bool, true, false, List, [], ◌++◌, take, length, length-append, Some, refl, ap, sym, subst, ◌∙◌, inl, inr, arith}
 use Rattle.std.proofs.lemmas.Bool.{false≢true}
 use Rattle.std.proofs.lemmas.List.{append-nil}
 use Rattle.zn_base.specs.States.{SinkState}
@@ -13,12 +13,13 @@ use Rattle.zn_run.specs.Endings.{out_of_memory, host_fault}
 use Rattle.zn_run.specs.Headline.{Closes, Closed, RanWhole, RanGiven, RanBroken, ComesTo, ToLast, RanTo, RanCut, in_reply, in_last, Ran, RunsBy}
 use Rattle.zn_run.specs.Progress.{CarriedOut, Reached, StoppedBy, IsEnded, IsBroken}
 use Rattle.zn_run.specs.States.{MachineState, State, state_of, Added}
-use Rattle.zn_run.specs.Statuses.{EndsBy}
+use Rattle.zn_run.specs.Script.{IsNear}
+use Rattle.zn_run.specs.Statuses.{EndsBy, IsScriptFault, line_of}
 use Rattle.zn_run.specs.Steps.{Unmoved}
 use Rattle.zn_run.specs.declared.machine.Step.TheVariants.{SinkFault as cut_step, Memory as starved_step}
 use Rattle.zn_run.specs.declared.status.Status.{Status}
 use Rattle.zn_run.specs.declared.status.Status.TheVariants.{Done, Usage, Script, Directory, HostFault, ReadFault, WriteFault, Memory}
-use Rattle.zn_run.proofs.LineLaws.{added_none, added_then, stopped_behind, transcript_reached}
+use Rattle.zn_run.proofs.LineLaws.{added_none, added_then, reached_behind, stopped_behind, transcript_reached}
 
 -- ---- whole transcripts
 
@@ -39,17 +40,6 @@ given_by false is givens r = record { givens = givens; told = λ tells. absurd (
 pub given_of : {status : Status} {tail : Tail} {first : ℕ} {script line : List ℕ} {old new : State} (givens : List (List ℕ))
     → RanWhole status tail (transcript_at givens tail old.machine.table first script) line old new → RanGiven status tail first script line old new
 given_of {old = old} givens r = given_by old.machine.table.world.truth.told refl givens r
-
--- only three statuses come with a whole transcript
-pub comes_whole : (status : Status) {tail : Tail} {first : ℕ} {script line : List ℕ} {old new : State} → RanGiven status tail first script line old new → ComesTo status tail first script line old new
-comes_whole Done r = r
-comes_whole Usage r = absurd r.whole.ends
-comes_whole Script r = r
-comes_whole Directory r = absurd r.whole.ends
-comes_whole HostFault r = absurd r.whole.ends
-comes_whole ReadFault r = r
-comes_whole WriteFault r = absurd r.whole.ends
-comes_whole Memory r = absurd r.whole.ends
 
 -- ---- by the last line
 
@@ -103,9 +93,16 @@ comes_behind : (status : Status) (tail : Tail) {old mid : State} (new : State) {
     → ComesTo status tail number rest line mid new → ComesTo status tail first script line old new
 comes_behind Done tail new rest line cut p r = given_behind cut p r
 comes_behind Usage tail new rest line cut p r = absurd r
-comes_behind Script tail new rest line cut p r = given_behind cut p r
+comes_behind Script tail new rest line cut p r = record {
+  given = given_behind cut p r.given;
+  ending = r.ending;
+  last = r.last;
+  reached = reached_behind cut p r.reached;
+  numbered = r.numbered;
+  near = r.near;
+}
 comes_behind Directory tail new rest line cut p r = absurd r
-comes_behind HostFault tail new rest line cut p r = record { stopped = stopped_behind cut p r.stopped; last = r.last }
+comes_behind HostFault tail new rest line cut p r = record { stopped = stopped_behind cut p r.stopped; last = r.last; near = r.near }
 comes_behind ReadFault tail new rest line cut p r = given_behind cut p r
 comes_behind WriteFault tail new rest line cut p r = absurd r
 comes_behind Memory tail new rest line cut p r = record { stopped = stopped_behind cut p r.stopped; last = r.last }
@@ -144,12 +141,11 @@ ended_is tail r by is =
     let T : List ℕ → Transcript = λ text. record { text = text; table = r.state.machine.table; ending = by } in
     transcript_reached tail [] r ∙ ap (with_text r.lines.out) is ∙ ap T (append-nil r.lines.out)
 
-pub comes_ended : (status : Status) (tail : Tail) {first : ℕ} {script : List ℕ} {old new : State} (by : Ending) (r : Reached old first script) → EndsBy status tail by
-    → ((givens : List (List ℕ)) → transcript_at givens tail r.state.machine.table r.number r.rest ≡ stop r.state.machine.table by) → Unmoved r.state new → ComesTo status tail first script (last_line by) old new
-comes_ended status tail {old = old} by r ends is unmoved =
+pub given_ended : (status : Status) (tail : Tail) {first : ℕ} {script : List ℕ} {old new : State} (by : Ending) (r : Reached old first script) → EndsBy status tail by
+    → ((givens : List (List ℕ)) → transcript_at givens tail r.state.machine.table r.number r.rest ≡ stop r.state.machine.table by) → Unmoved r.state new → RanGiven status tail first script (last_line by) old new
+given_ended status tail {old = old} by r ends is unmoved =
     let S : SinkState → Type 0 = λ s. Added r.lines.out old.sink s in
-    comes_whole status
-    (given_of (r.lines.lines.givens ++ [])
+    given_of (r.lines.lines.givens ++ [])
     (whole_along (ended_is tail r by (is []))
     (record {
       ends = ends;
@@ -158,18 +154,34 @@ comes_ended status tail {old = old} by r ends is unmoved =
       breaks = unmoved.breaks ∙ r.lines.breaks;
       spoilt = unmoved.spoilt ∙ r.lines.spoilt;
       replies = subst S (sym unmoved.sink) r.lines.replies;
-    })))
+    }))
+
+-- what is near for all of some bytes is so for a rest of them
+pub near_rest : {old : State} {first : ℕ} {script : List ℕ} (tail : Tail) (r : Reached old first script) → IsNear tail script → IsNear tail r.rest
+near_rest tail r near = omega (arith, near, ap length r.cut, length-append r.before r.rest)
+
+-- a run that the script ended at a line
+pub comes_script : (tail : Tail) {first : ℕ} {script : List ℕ} {old new : State} (by : Ending) (r : Reached old first script) → IsScriptFault by → line_of by ≡ Some r.number → IsNear tail script
+    → ((givens : List (List ℕ)) → transcript_at givens tail r.state.machine.table r.number r.rest ≡ stop r.state.machine.table by) → Unmoved r.state new → ComesTo Script tail first script (last_line by) old new
+comes_script tail by r is_fault numbered near is unmoved = record {
+  given = given_ended Script tail by r is_fault is unmoved;
+  ending = by;
+  last = refl;
+  reached = r;
+  numbered = numbered;
+  near = near_rest tail r near;
+}
 
 -- a run that one of the lines that a newline ends ended
-pub ran_ended : {result : Status} {tail : Tail} {first : ℕ} {script : List ℕ} {old : State} {machine : MachineState} {sink sink' : SinkState} {by : Ending} → IsEnded by tail first script old (state_of machine sink)
+pub ran_ended : {result : Status} {tail : Tail} {first : ℕ} {script : List ℕ} {old : State} {machine : MachineState} {sink sink' : SinkState} {by : Ending} → IsNear tail script → IsEnded by tail first script old (state_of machine sink)
     → Closed result Script (last_line by) sink sink' → Ran result tail first script old (state_of machine sink')
-ran_ended {tail = tail} {by = by} h c = closes (comes_ended Script tail by h.reached h.is_fault h.ends h.unmoved) c
+ran_ended {tail = tail} {by = by} near h c = closes (comes_script tail by h.reached h.is_fault h.numbered near h.ends h.unmoved) c
 
 -- a run that a failure of the host ended in a line that a newline ends
-pub ran_broken : {result : Status} {tail : Tail} {first number : ℕ} {script : List ℕ} {old : State} {machine : MachineState} {sink sink' : SinkState} → IsBroken number tail first script old (state_of machine sink)
+pub ran_broken : {result : Status} {tail : Tail} {first number : ℕ} {script : List ℕ} {old : State} {machine : MachineState} {sink sink' : SinkState} → IsNear tail script → IsBroken number tail first script old (state_of machine sink)
     → Closed result HostFault (host_fault number) sink sink' → Ran result tail first script old (state_of machine sink')
-ran_broken {tail = tail} {first = first} {script = script} {old = old} {machine = machine} {sink = sink} h c =
-    let b : RanBroken tail first script (host_fault _) old (state_of machine sink) = record { stopped = h.stopped; last = ap host_fault h.numbered } in closes b c
+ran_broken {tail = tail} {first = first} {script = script} {old = old} {machine = machine} {sink = sink} near h c =
+    let b : RanBroken tail first script (host_fault _) old (state_of machine sink) = record { stopped = h.stopped; last = ap host_fault h.numbered; near = near_rest tail h.stopped.reached near } in closes b c
 
 pub ran_starved : {result : Status} {tail : Tail} {first : ℕ} {script : List ℕ} {old : State} {machine : MachineState} {sink sink' : SinkState} → StoppedBy starved_step tail first script old (state_of machine sink)
     → Closed result Memory out_of_memory sink sink' → Ran result tail first script old (state_of machine sink')
@@ -179,8 +191,8 @@ pub ran_cut : {tail : Tail} {first : ℕ} {script : List ℕ} {old new : State} 
 ran_cut s = record { means = in_reply s }
 
 -- a run of the bytes that were taken, up to the limit of a script
-pub runs_by : (tail : Tail) {result : Status} {script : List ℕ} (bytes : List ℕ) {old new : State} → tail ≢ More → script ≡ take SCRIPT_LIMIT bytes → Ran result tail 1 script old new → RunsBy tail result bytes old new
-runs_by End {result = result} bytes {old = old} {new = new} known is r = let R : List ℕ → Type 0 = λ s. Ran result End 1 s old new in subst R is r
-runs_by fault_tail {result = result} bytes {old = old} {new = new} known is r = let R : List ℕ → Type 0 = λ s. Ran result fault_tail 1 s old new in subst R is r
-runs_by Over {result = result} bytes {old = old} {new = new} known is r = let R : List ℕ → Type 0 = λ s. Ran result Over 1 s old new in subst R is r
-runs_by More bytes known is r = absurd (known refl)
+pub runs_by : (tail : Tail) {result : Status} {script : List ℕ} (bytes : List ℕ) {old new : State} → script ≡ take SCRIPT_LIMIT bytes → Ran result tail 1 script old new → RunsBy tail result bytes old new
+runs_by End {result = result} bytes {old = old} {new = new} is r = let R : List ℕ → Type 0 = λ s. Ran result End 1 s old new in subst R is r
+runs_by fault_tail {result = result} bytes {old = old} {new = new} is r = let R : List ℕ → Type 0 = λ s. Ran result fault_tail 1 s old new in subst R is r
+runs_by Over {result = result} bytes {old = old} {new = new} is r = let R : List ℕ → Type 0 = λ s. Ran result Over 1 s old new in subst R is r
+runs_by More {result = result} bytes {old = old} {new = new} is r = let R : List ℕ → Type 0 = λ s. Ran result More 1 s old new in inl (subst R is r)

@@ -1,9 +1,10 @@
 -- What follows of a run from what it ensures.
-use Rattle.std.proofs.Common.{◌≡◌, ◌⊎◌, ℕ, ◌+◌, ◌≤◌, true, false, List, [], ◌++◌, length, length-append, take, Option, Some, None, Result, Ok, Err, refl, ap, sym, subst, ◌∙◌, inl, inr, lt-ltb, le-ltb, arith}
+use Rattle.std.proofs.Common.{◌≡◌, ◌⊎◌, ℕ, ◌+◌, ◌-◌, ◌≤◌, true, false, List, [], ◌++◌, length, length-append, take, Option, Some, None, Result, Ok, Err, refl, ap, sym, subst, ◌∙◌, inl, inr, lt-ltb, le-ltb, arith}
 use Rattle.std.specs.Prelude.{nat_lt}
-use Rattle.std.proofs.lemmas.List.{append-nil, take-append-le}
+use Rattle.std.proofs.lemmas.List.{append-nil, take-append-le, take_all, length-take}
+use Rattle.std.proofs.Math.Seq.{take-append-add}
 use Rattle.std.proofs.lemmas.Option.{same_Some}
-use Rattle.zn_base.specs.States.{SinkState}
+use Rattle.zn_base.specs.States.{SourceState, SinkState}
 use Rattle.zn_base.specs.Told.{Gave, IsAtEnd}
 use Rattle.zn_base.proofs.ToldLaws.{all_given}
 use Rattle.zn_lines.specs.declared.limits.TheConstants.{SCRIPT_LIMIT}
@@ -14,16 +15,17 @@ use Rattle.zn_lines.specs.declared.runs.Ending.TheVariants.{Finished, BadLine, L
 use Rattle.zn_lines.specs.Lines.{Line}
 use Rattle.zn_lines.specs.Memory.{takes_itself}
 use Rattle.zn_lines.specs.Table.{Table}
-use Rattle.zn_lines.specs.Transcript.{Transcript, transcript_from, pieces, transcript_at, transcript, transcript_of, stop, last_line, whole_text}
+use Rattle.zn_lines.specs.Transcript.{Transcript, transcript_from, pieces, transcript_at, transcript, transcript_of, tail_of, stop, IsDecided, last_line, whole_text}
 use Rattle.zn_run.specs.Endings.{out_of_memory}
 use Rattle.zn_run.specs.Headline.{Closes, RanGiven, ToLast, RanTo, RanCut, in_reply, in_last, Unrun, Ran, RunsBy}
-use Rattle.zn_run.specs.Laws.{WholeLinesAlone, IsKept, StarvedIn, LacksMemory, RunCauses, StatusesHaveCauses, IsFaultless, FaultlessRuns, DoneRuns, RanAll, WholeRuns}
-use Rattle.zn_run.specs.Progress.{IsNext}
-use Rattle.zn_run.specs.Script.{Taken}
+use Rattle.zn_run.specs.Laws.{WholeLinesAlone, IsKept, StarvedIn, LacksMemory, RunCauses, StatusesHaveCauses, IsFaultless, FaultlessRuns, DoneRuns, RanAll, WholeRuns, EndsNear, UnreadRest}
+use Rattle.zn_run.specs.Progress.{IsNext, Reached}
+use Rattle.zn_run.specs.Script.{Taken, IsNear}
 use Rattle.zn_run.specs.States.{State, Run, state_of, driven, streams, HasRisen, Added}
-use Rattle.zn_run.specs.Statuses.{EndsBy, status_of}
+use Rattle.zn_run.specs.Statuses.{EndsBy, IsScriptFault, status_of}
 use Rattle.zn_run.specs.declared.status.Status.{Status}
 use Rattle.zn_run.specs.declared.status.Status.TheVariants.{Done, Usage, Script, Directory, HostFault, ReadFault, WriteFault, Memory}
+use Rattle.zn_run.proofs.DecidedLaws.{decided_stays, fault_decided}
 use Rattle.zn_run.proofs.LineLaws.{added_then}
 
 -- no bytes are no line
@@ -45,7 +47,7 @@ whole_lines_alone table0 table first number bytes out w =
 kept_to : (status : Status) {tail : Tail} {first : ℕ} {script : List ℕ} {old new : State} (to : ToLast status tail first script old new) → to.sink.faults ≡ old.sink.faults
 kept_to Done to = to.comes.whole.replies.kept
 kept_to Usage to = absurd to.comes
-kept_to Script to = to.comes.whole.replies.kept
+kept_to Script to = to.comes.given.whole.replies.kept
 kept_to Directory to = absurd to.comes
 kept_to HostFault to = ap (λ (s : SinkState). s.faults) to.comes.stopped.stepped.means.sink ∙ to.comes.stopped.reached.lines.replies.kept
 kept_to ReadFault to = to.comes.whole.replies.kept
@@ -119,43 +121,50 @@ done_by : (tail : Tail) {bytes : List ℕ} (old new : Run) → Taken bytes tail 
 done_by End old new t h = (t.holds.1, record { reads = t.holds.2; writes = h.means.written.kept ∙ h.means.to.comes.whole.replies.kept; breaks = h.means.to.comes.whole.breaks })
 done_by Fault old new t h = absurd (let e : Fault ≡ End = h.means.to.comes.whole.ends.0 in cc)
 done_by Over old new t h = absurd (let e : Over ≡ End = h.means.to.comes.whole.ends.0 in cc)
-done_by More old new t h = absurd (not_unrun (λ e. cc) (λ e. cc) h.closed.means)
+done_by More old new t (inl r) = absurd (let e : More ≡ End = r.means.to.comes.whole.ends.0 in cc)
+done_by More old new t (inr u) = absurd (not_unrun (λ e. cc) (λ e. cc) u.unrun.closed.means)
 
 never_usage : (tail : Tail) (bytes : List ℕ) (old new : Run) → RunsBy tail Usage bytes (driven old) (driven new) → ⊥
 never_usage End bytes old new h = h.means
 never_usage Fault bytes old new h = h.means
 never_usage Over bytes old new h = h.means
-never_usage More bytes old new h = not_unrun (λ e. cc) (λ e. cc) h.closed.means
+never_usage More bytes old new (inl r) = r.means
+never_usage More bytes old new (inr u) = not_unrun (λ e. cc) (λ e. cc) u.unrun.closed.means
 
 never_directory : (tail : Tail) (bytes : List ℕ) (old new : Run) → RunsBy tail Directory bytes (driven old) (driven new) → ⊥
 never_directory End bytes old new h = h.means
 never_directory Fault bytes old new h = h.means
 never_directory Over bytes old new h = h.means
-never_directory More bytes old new h = not_unrun (λ e. cc) (λ e. cc) h.closed.means
+never_directory More bytes old new (inl r) = r.means
+never_directory More bytes old new (inr u) = not_unrun (λ e. cc) (λ e. cc) u.unrun.closed.means
 
 host_by : (tail : Tail) (bytes : List ℕ) (old new : Run) → RunsBy tail HostFault bytes (driven old) (driven new) → HasRisen old.machine.breaks new.machine.breaks
 host_by End bytes old new h = break_risen h.means
 host_by Fault bytes old new h = break_risen h.means
 host_by Over bytes old new h = break_risen h.means
-host_by More bytes old new h = absurd (not_unrun (λ e. cc) (λ e. cc) h.closed.means)
+host_by More bytes old new (inl r) = break_risen r.means
+host_by More bytes old new (inr u) = absurd (not_unrun (λ e. cc) (λ e. cc) u.unrun.closed.means)
 
 read_by : (tail : Tail) {bytes : List ℕ} (old new : Run) → Taken bytes tail old.source new.source → RunsBy tail ReadFault bytes (driven old) (driven new) → HasRisen old.source.faults new.source.faults
 read_by End old new t h = absurd (let e : End ≡ Fault = h.means.to.comes.whole.ends.0 in cc)
 read_by Fault old new t h = t.holds.1
 read_by Over old new t h = absurd (let e : Over ≡ Fault = h.means.to.comes.whole.ends.0 in cc)
-read_by More old new t h = absurd (not_unrun (λ e. cc) (λ e. cc) h.closed.means)
+read_by More old new t (inl r) = absurd (let e : More ≡ Fault = r.means.to.comes.whole.ends.0 in cc)
+read_by More old new t (inr u) = absurd (not_unrun (λ e. cc) (λ e. cc) u.unrun.closed.means)
 
 write_by : (tail : Tail) (bytes : List ℕ) (old new : Run) → RunsBy tail WriteFault bytes (driven old) (driven new) → HasRisen old.sink.faults new.sink.faults
 write_by End bytes old new h = cut_risen h.means
 write_by Fault bytes old new h = cut_risen h.means
 write_by Over bytes old new h = cut_risen h.means
-write_by More bytes old new h = unrun_risen h.closed.means
+write_by More bytes old new (inl r) = cut_risen r.means
+write_by More bytes old new (inr u) = unrun_risen u.unrun.closed.means
 
 memory_by : (tail : Tail) {bytes : List ℕ} (old new : Run) → Taken bytes tail old.source new.source → RunsBy tail Memory bytes (driven old) (driven new) → LacksMemory old new
 memory_by End old new t h = starved_by t h.means
 memory_by Fault old new t h = starved_by t h.means
 memory_by Over old new t h = starved_by t h.means
-memory_by More old new t h = inl h
+memory_by More old new t (inl r) = starved_by t r.means
+memory_by More old new t (inr u) = inl u.unrun
 
 pub statuses_have_causes : StatusesHaveCauses
 statuses_have_causes status old new h =
@@ -213,7 +222,8 @@ runs_done : (tail : Tail) {script bytes : List ℕ} (old new : Run) → old.sour
 runs_done End {script = script} {bytes = bytes} old new told t h = ran_done (all_given old.source.left new.source.left script bytes told t.gave t.holds.1) h
 runs_done Fault old new told t h = absurd (let e : Fault ≡ End = h.means.to.comes.whole.ends.0 in cc)
 runs_done Over old new told t h = absurd (let e : Over ≡ End = h.means.to.comes.whole.ends.0 in cc)
-runs_done More old new told t h = absurd (not_unrun (λ e. cc) (λ e. cc) h.closed.means)
+runs_done More old new told t (inl r) = absurd (let e : More ≡ End = r.means.to.comes.whole.ends.0 in cc)
+runs_done More old new told t (inr u) = absurd (not_unrun (λ e. cc) (λ e. cc) u.unrun.closed.means)
 
 pub done_runs : DoneRuns
 done_runs script old new told h = runs_done h.tail old new told h.taken h.ran
@@ -262,7 +272,7 @@ whole_by {tail = tail} {script = script} {bytes = bytes} old new same told h (in
     let R : Status → Type 0 = λ s. Ran s tail 1 bytes (driven old) (driven new) in
     let W : Status → Type 0 = λ s. RanAll script s (driven old) (driven new) in
     let r : Ran Script tail 1 bytes (driven old) (driven new) = subst R e h in
-    inl (subst W (sym e) (ran_all same told r.means.to r.means.to.comes r.means.written))
+    inl (subst W (sym e) (ran_all same told r.means.to r.means.to.comes.given r.means.written))
 whole_by old new same told h (inr (inr lacks)) = inr lacks
 
 unrun_whole : {script : List ℕ} {status : Status} (old new : Run) → Unrun status (driven old) (driven new) → Closes status Memory out_of_memory old.sink new.sink → ¬ HasRisen old.sink.faults new.sink.faults → Whole script status old new
@@ -287,6 +297,33 @@ front_given : (left0 left : Option (List ℕ)) (script taken : List ℕ) → lef
 front_given left0 None script taken told gave = absurd (let e : Some script ≡ None = sym told ∙ gave in cc)
 front_given left0 (Some rest) script taken told gave = let e : Some script ≡ Some (taken ++ rest) = sym told ∙ gave in (rest, same_Some _ _ e)
 
+-- the script itself ended the run before it was read to its end
+decided_end : (table : Table) (script bytes rest : List ℕ) → script ≡ bytes ++ rest → length bytes ≤ SCRIPT_LIMIT → IsDecided (transcript_at [] More table 1 (take SCRIPT_LIMIT bytes)).ending
+    → transcript_at [] More table 1 (take SCRIPT_LIMIT bytes) ≡ transcript_of table script
+decided_end table script bytes rest is fits decided =
+    let all : take SCRIPT_LIMIT bytes ≡ bytes = take_all SCRIPT_LIMIT bytes fits in
+    let left = SCRIPT_LIMIT - length bytes in
+    let sum : SCRIPT_LIMIT ≡ length bytes + left = omega (arith, fits) in
+    let front : take SCRIPT_LIMIT script ≡ bytes ++ take left rest = ap (take SCRIPT_LIMIT) is ∙ ap (λ n. take n (bytes ++ rest)) sum ∙ take-append-add bytes rest left in
+    let D : List ℕ → Type 0 = λ bytes. IsDecided (transcript_at [] More table 1 bytes).ending in
+    ap (transcript_at [] More table 1) all ∙ sym (decided_stays [] (tail_of script) table 1 bytes (take left rest) (subst D all decided)) ∙ ap (transcript_at [] (tail_of script) table 1) (sym front)
+
+whole_more : {status : Status} {script : List ℕ} (bytes : List ℕ) (old new : Run) (rest : List ℕ) → script ≡ bytes ++ rest → length bytes ≤ SCRIPT_LIMIT → old.machine.table.world.truth.told ≡ true
+    → Ran status More 1 (take SCRIPT_LIMIT bytes) (driven old) (driven new) → Faultless status old new → Whole script status old new
+whole_more bytes old new rest is fits told h (inl e) =
+    let R : Status → Type 0 = λ s. Ran s More 1 (take SCRIPT_LIMIT bytes) (driven old) (driven new) in
+    let r : Ran Done More 1 (take SCRIPT_LIMIT bytes) (driven old) (driven new) = subst R e h in
+    absurd (let e : More ≡ End = r.means.to.comes.whole.ends.0 in cc)
+whole_more {script = script} bytes old new rest is fits told h (inr (inl e)) =
+    let R : Status → Type 0 = λ s. Ran s More 1 (take SCRIPT_LIMIT bytes) (driven old) (driven new) in
+    let W : Status → Type 0 = λ s. RanAll script s (driven old) (driven new) in
+    let r : Ran Script More 1 (take SCRIPT_LIMIT bytes) (driven old) (driven new) = subst R e h in
+    let given = r.means.to.comes.given in
+    let F : List (List ℕ) → Type 0 = λ gs. IsScriptFault (transcript_at gs More old.machine.table 1 (take SCRIPT_LIMIT bytes)).ending in
+    let decided = fault_decided [] (pieces (take SCRIPT_LIMIT bytes)) old.machine.table 1 (subst F (given.told told) given.whole.ends) in
+    inl (subst W (sym e) (ran_all (decided_end old.machine.table script bytes rest is fits decided) told r.means.to given r.means.written))
+whole_more bytes old new rest is fits told h (inr (inr lacks)) = inr lacks
+
 runs_whole : (tail : Tail) {script bytes : List ℕ} {status : Status} (old new : Run) → old.source.left ≡ Some script → old.machine.table.world.truth.told ≡ true → Taken bytes tail old.source new.source
     → RunsBy tail status bytes (driven old) (driven new) → IsFaultless old new → Faultless status old new → Whole script status old new
 runs_whole End {script = script} {bytes = bytes} old new told tells t h f by =
@@ -295,7 +332,48 @@ runs_whole Fault old new told tells t h f by = absurd (f.no_read t.holds.1)
 runs_whole Over {script = script} {bytes = bytes} old new told tells t h f by =
     let front = front_given old.source.left new.source.left script bytes told t.gave in
     whole_by old new (past_end old.machine.table script bytes front.0 front.1 t.holds.0) tells h by
-runs_whole More old new told tells t h f by = unrun_whole old new h h.closed.means f.no_write
+runs_whole More {script = script} {bytes = bytes} old new told tells t (inl h) f by =
+    let front = front_given old.source.left new.source.left script bytes told t.gave in
+    whole_more bytes old new front.0 front.1 t.holds.0 tells h by
+runs_whole More old new told tells t (inr u) f by = unrun_whole old new u.unrun u.unrun.closed.means f.no_write
 
 pub whole_runs : WholeRuns
 whole_runs script status old new told tells h f = runs_whole h.tail old new told tells h.taken h.ran f (faultless_runs status old new h f)
+
+-- ---- the rest that is unread
+
+near_taken : (tail : Tail) {bytes : List ℕ} {s : State} {old new : SourceState} → Taken bytes tail old new → (r : Reached s 1 (take SCRIPT_LIMIT bytes)) → IsNear tail r.rest → length bytes ≤ length r.before + 131072
+near_taken End {bytes = bytes} t r near = omega (arith, near, t.holds.0, ap length r.cut, length-append r.before r.rest, length-take SCRIPT_LIMIT bytes)
+near_taken Fault {bytes = bytes} t r near = omega (arith, near, t.holds.0, ap length r.cut, length-append r.before r.rest, length-take SCRIPT_LIMIT bytes)
+near_taken Over {bytes = bytes} t r near = omega (arith, near, t.holds.0, ap length r.cut, length-append r.before r.rest, length-take SCRIPT_LIMIT bytes)
+near_taken More {bytes = bytes} t r near = omega (arith, near, t.holds.0, ap length r.cut, length-append r.before r.rest, length-take SCRIPT_LIMIT bytes)
+
+near_script : {tail : Tail} {bytes : List ℕ} {old new : Run} → Taken bytes tail old.source new.source → Ran Script tail 1 (take SCRIPT_LIMIT bytes) (driven old) (driven new) → EndsNear old (streams new)
+near_script {tail = tail} {bytes = bytes} taken h =
+    let r = h.means.to.comes in
+    record { bytes = bytes; tail = tail; taken = taken; reached = r.reached; near = near_taken tail taken r.reached r.near; line = h.means.to.line; tells = inl (r.ending, r.last, r.numbered) }
+
+near_host : {tail : Tail} {bytes : List ℕ} {old new : Run} → Taken bytes tail old.source new.source → Ran HostFault tail 1 (take SCRIPT_LIMIT bytes) (driven old) (driven new) → EndsNear old (streams new)
+near_host {tail = tail} {bytes = bytes} taken h =
+    let r = h.means.to.comes in
+    record { bytes = bytes; tail = tail; taken = taken; reached = r.stopped.reached; near = near_taken tail taken r.stopped.reached r.near; line = h.means.to.line; tells = inr r.last }
+
+script_by : (tail : Tail) {bytes : List ℕ} (old new : Run) → Taken bytes tail old.source new.source → RunsBy tail Script bytes (driven old) (driven new) → EndsNear old (streams new)
+script_by End old new t h = near_script t h
+script_by Fault old new t h = near_script t h
+script_by Over old new t h = near_script t h
+script_by More old new t (inl r) = near_script t r
+script_by More old new t (inr u) = absurd (not_unrun (λ e. cc) (λ e. cc) u.unrun.closed.means)
+
+broken_by : (tail : Tail) {bytes : List ℕ} (old new : Run) → Taken bytes tail old.source new.source → RunsBy tail HostFault bytes (driven old) (driven new) → EndsNear old (streams new)
+broken_by End old new t h = near_host t h
+broken_by Fault old new t h = near_host t h
+broken_by Over old new t h = near_host t h
+broken_by More old new t (inl r) = near_host t r
+broken_by More old new t (inr u) = absurd (not_unrun (λ e. cc) (λ e. cc) u.unrun.closed.means)
+
+pub unread_rest : UnreadRest
+unread_rest status old new h (inl is) =
+    let R : Status → Type 0 = λ s. RunsBy h.tail s h.bytes (driven old) (driven new) in script_by h.tail old new h.taken (subst R is h.ran)
+unread_rest status old new h (inr is) =
+    let R : Status → Type 0 = λ s. RunsBy h.tail s h.bytes (driven old) (driven new) in broken_by h.tail old new h.taken (subst R is h.ran)

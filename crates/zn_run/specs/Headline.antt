@@ -1,15 +1,16 @@
 -- What a whole run did, by its status. (own)
-use Rattle.std.specs.Prelude.{◌≡◌, ◌⊎◌, ℕ, true, List, [], take}
+use Rattle.std.specs.Prelude.{◌≡◌, ◌⊎◌, ℕ, true, List, [], take, Some}
 use Rattle.zn_base.specs.States.{SinkState}
 use Rattle.zn_lines.specs.declared.limits.TheConstants.{SCRIPT_LIMIT}
 use Rattle.zn_lines.specs.declared.runs.Tail.{Tail}
 use Rattle.zn_lines.specs.declared.runs.Tail.TheVariants.{End, Fault as fault_tail, Over, More}
+use Rattle.zn_lines.specs.declared.runs.Ending.{Ending}
 use Rattle.zn_lines.specs.Transcript.{Transcript, transcript_at, last_line}
 use Rattle.zn_run.specs.Endings.{out_of_memory, host_fault}
-use Rattle.zn_run.specs.Progress.{StoppedBy}
-use Rattle.zn_run.specs.Script.{Taken}
+use Rattle.zn_run.specs.Progress.{Reached, StoppedBy}
+use Rattle.zn_run.specs.Script.{Taken, IsNear}
 use Rattle.zn_run.specs.States.{State, Run, state_of, driven, Added, CutOff}
-use Rattle.zn_run.specs.Statuses.{EndsBy}
+use Rattle.zn_run.specs.Statuses.{EndsBy, line_of}
 use Rattle.zn_run.specs.declared.machine.Step.TheVariants.{Broken as broken_step, SinkFault as cut_step, Memory as starved_step}
 use Rattle.zn_run.specs.declared.status.Status.{Status}
 use Rattle.zn_run.specs.declared.status.Status.TheVariants.{Done, Usage, Script, Directory, HostFault, ReadFault, WriteFault, Memory}
@@ -43,10 +44,20 @@ pub record RanGiven (status : Status) (tail : Tail) (first : ℕ) (script line :
   pub told : old.machine.table.world.truth.told ≡ true → givens ≡ []
   pub whole : RanWhole status tail (transcript_at givens tail old.machine.table first script) line old new
 
--- the host failed in a line, whose number is told
+-- The script ended the run at a line, whose number is told, and few bytes were taken from its first one on.
+pub record RanEnded (tail : Tail) (first : ℕ) (script line : List ℕ) (old new : State) : Type 0 where
+  pub given : RanGiven Script tail first script line old new
+  pub ending : Ending
+  pub last : line ≡ last_line ending
+  pub reached : Reached old first script
+  pub numbered : line_of ending ≡ Some reached.number
+  pub near : IsNear tail reached.rest
+
+-- the host failed in a line, whose number is told, and few bytes were taken from its first one on
 pub record RanBroken (tail : Tail) (first : ℕ) (script line : List ℕ) (old new : State) : Type 0 where
   pub stopped : StoppedBy broken_step tail first script old new
   pub last : line ≡ host_fault stopped.reached.number
+  pub near : IsNear tail stopped.reached.rest
 
 -- there was no memory for a line
 pub record RanStarved (tail : Tail) (first : ℕ) (script line : List ℕ) (old new : State) : Type 0 where
@@ -57,7 +68,7 @@ pub record RanStarved (tail : Tail) (first : ℕ) (script line : List ℕ) (old 
 abbrev pub ComesTo : Status → Tail → ℕ → List ℕ → List ℕ → State → State → Type 0
 ComesTo Done tail first script line old new = RanGiven Done tail first script line old new
 ComesTo Usage tail first script line old new = ⊥
-ComesTo Script tail first script line old new = RanGiven Script tail first script line old new
+ComesTo Script tail first script line old new = RanEnded tail first script line old new
 ComesTo Directory tail first script line old new = ⊥
 ComesTo HostFault tail first script line old new = RanBroken tail first script line old new
 ComesTo ReadFault tail first script line old new = RanGiven ReadFault tail first script line old new
@@ -100,17 +111,23 @@ pub record Ran (status : Status) (tail : Tail) (first : ℕ) (script : List ℕ)
 
 -- ---- the whole run
 
--- there was no memory for the script: no line is carried out, and only this is told
+-- there was no memory for the buffer of lines: no line is carried out, and only this is told
 pub record Unrun (result : Status) (old new : State) : Type 0 where
   pub still : new.machine ≡ old.machine
   pub closed : Closed result Memory out_of_memory old.sink new.sink
 
--- the bytes that were taken are run up to the limit of a script, unless they could not be taken whole
+-- the same, and nothing was taken
+pub record Unbegun (result : Status) (taken : List ℕ) (old new : State) : Type 0 where
+  pub none : taken ≡ []
+  pub unrun : Unrun result old new
+
+-- The bytes that were taken are run up to the limit of a script. Where no more is known of what comes after them, a line
+-- has ended the run before all was read, or it has not begun.
 abbrev pub RunsBy : Tail → Status → List ℕ → State → State → Type 0
 RunsBy End result taken old new = Ran result End 1 (take SCRIPT_LIMIT taken) old new
 RunsBy fault_tail result taken old new = Ran result fault_tail 1 (take SCRIPT_LIMIT taken) old new
 RunsBy Over result taken old new = Ran result Over 1 (take SCRIPT_LIMIT taken) old new
-RunsBy More result taken old new = Unrun result old new
+RunsBy More result taken old new = Ran result More 1 (take SCRIPT_LIMIT taken) old new ⊎ Unbegun result taken old new
 
 -- The bytes that were taken, what came after them, and the run of just these.
 pub record Headline (result : Status) (old new : Run) : Type 0 where

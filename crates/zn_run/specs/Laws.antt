@@ -1,19 +1,20 @@
 -- Laws of runs. (own)
-use Rattle.std.specs.Prelude.{◌≡◌, ◌⊎◌, ℕ, true, List, [], ◌++◌, take, Some}
+use Rattle.std.specs.Prelude.{◌≡◌, ◌⊎◌, ◌≤◌, ◌+◌, ℕ, true, List, [], ◌++◌, length, take, Some}
 use Rattle.zn_base.specs.Told.{IsAtEnd}
 use Rattle.zn_lines.specs.declared.limits.TheConstants.{SCRIPT_LIMIT}
+use Rattle.zn_lines.specs.declared.runs.Ending.{Ending}
 use Rattle.zn_lines.specs.declared.runs.Tail.{Tail}
 use Rattle.zn_lines.specs.declared.runs.Tail.TheVariants.{End, More}
 use Rattle.zn_lines.specs.Lines.{Line}
 use Rattle.zn_lines.specs.Memory.{takes_itself}
 use Rattle.zn_lines.specs.Table.{Table}
-use Rattle.zn_lines.specs.Transcript.{transcript, transcript_at, transcript_of, IsDecided, whole_text}
-use Rattle.zn_run.specs.Endings.{out_of_memory}
+use Rattle.zn_lines.specs.Transcript.{transcript, transcript_at, transcript_of, IsDecided, last_line, whole_text}
+use Rattle.zn_run.specs.Endings.{out_of_memory, host_fault}
 use Rattle.zn_run.specs.Headline.{Headline, Unrun}
 use Rattle.zn_run.specs.Progress.{WholeLines, Reached, IsNext}
 use Rattle.zn_run.specs.Script.{Taken}
 use Rattle.zn_run.specs.States.{State, Streams, Run, HasRisen, Added, driven, streams}
-use Rattle.zn_run.specs.Statuses.{status_of}
+use Rattle.zn_run.specs.Statuses.{status_of, line_of}
 use Rattle.zn_run.specs.declared.status.Status.{Status}
 use Rattle.zn_run.specs.declared.status.Status.TheVariants.{Done, Usage, Script, Directory, HostFault, ReadFault, WriteFault, Memory}
 
@@ -58,7 +59,7 @@ pub record StarvedIn (old : Run) (new : Streams) : Type 0 where
   pub takes : takes_itself line ≡ true
   pub written : Added (reached.lines.out ++ out_of_memory) old.sink new.sink
 
--- There was no memory: for the script, of which no line is carried out then, for a line of a machine whose lines take
+-- There was no memory: for the buffer, so that no line is carried out, for a line of a machine whose lines take
 -- some, or for a line that takes some itself.
 abbrev pub LacksMemory : Run → Run → Type 0
 LacksMemory old new = Unrun Memory (driven old) (driven new) ⊎ (old.machine.takes_memory ≡ true) ⊎ StarvedIn old (streams new)
@@ -107,3 +108,24 @@ WholeRuns =
     (script : List ℕ) (status : Status) (old new : Run)
     → old.source.left ≡ Some script → old.machine.table.world.truth.told ≡ true → Headline status old new → IsFaultless old new
     → RanAll script status (driven old) (driven new) ⊎ ((status ≡ Memory) × LacksMemory old new)
+
+-- this last line tells the line with this number, at which the script ended the run, or in which the host failed
+abbrev pub TellsLine : List ℕ → ℕ → Type 0
+TellsLine line number =
+    ((ending : Ending) × (line ≡ last_line ending) × (line_of ending ≡ Some number)) ⊎ (line ≡ host_fault number)
+
+-- The last line tells the line that the run came to, and of that line and those behind it the source has given at most
+-- 131,072 bytes. The lines before are carried out.
+pub record EndsNear (old : Run) (new : Streams) : Type 0 where
+  pub bytes : List ℕ
+  pub tail : Tail
+  pub taken : Taken bytes tail old.source new.source
+  pub reached : Reached (driven old) 1 (take SCRIPT_LIMIT bytes)
+  pub near : length bytes ≤ length reached.before + 131072
+  pub line : List ℕ
+  pub tells : TellsLine line reached.number
+
+-- where the script or a failure of the host ends a run, the rest of the script is still unread
+abbrev pub UnreadRest : Type 0
+UnreadRest =
+    (status : Status) (old new : Run) → Headline status old new → (status ≡ Script) ⊎ (status ≡ HostFault) → EndsNear old (streams new)

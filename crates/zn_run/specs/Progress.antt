@@ -10,7 +10,7 @@ use Rattle.zn_lines.specs.Table.{Table}
 use Rattle.zn_lines.specs.Session.{line_step}
 use Rattle.zn_lines.specs.Transcript.{stop, with_text, transcript_at, is_newline, OneLine}
 use Rattle.zn_run.specs.States.{State, Added}
-use Rattle.zn_run.specs.Statuses.{IsScriptFault}
+use Rattle.zn_run.specs.Statuses.{IsScriptFault, line_of}
 use Rattle.zn_run.specs.Steps.{Unmoved, Stepped}
 use Rattle.zn_run.specs.declared.lines.Halt.{Halt}
 use Rattle.zn_run.specs.declared.lines.Halt.TheVariants.{Rest, Ended, Broken, SinkFault, Memory}
@@ -75,10 +75,16 @@ pub record IsRest (old new : State) (first : ℕ) (script : List ℕ) (at number
   pub one : OneLine (drop at script)
   pub lines : CarriedOut old new first (take at script) number
 
+-- the same, and the rest is short enough to be a line yet
+pub record IsKeptRest (at number first : ℕ) (script : List ℕ) (old new : State) : Type 0 where
+  pub rest : IsRest old new first script at number
+  pub fits : length script ≤ at + 65536
+
 -- one of them ended the run, and moved nothing
 pub record IsEnded (ending : Ending) (tail : Tail) (first : ℕ) (script : List ℕ) (old new : State) : Type 0 where
   pub reached : Reached old first script
   pub is_fault : IsScriptFault ending
+  pub numbered : line_of ending ≡ Some reached.number
   pub ends : (givens : List (List ℕ))
       → transcript_at givens tail reached.state.machine.table reached.number reached.rest ≡ stop reached.state.machine.table ending
   pub unmoved : Unmoved reached.state new

@@ -1,5 +1,5 @@
 -- How a run ended. (own)
-use Rattle.std.specs.Prelude.{◌≡◌, ℕ}
+use Rattle.std.specs.Prelude.{◌≡◌, ℕ, Option, Some, None}
 use Rattle.zn_lines.specs.declared.runs.Tail.{Tail}
 use Rattle.zn_lines.specs.declared.runs.Tail.TheVariants.{End, Fault}
 use Rattle.zn_lines.specs.declared.runs.Ending.{Ending}
@@ -35,6 +35,15 @@ IsScriptFault (LineTooLong n) = Unit {0}
 IsScriptFault (ScriptTooLong n) = Unit {0}
 IsScriptFault ReadFailed = ⊥
 IsScriptFault Unread = ⊥
+
+-- the number of the line that the last line of a run tells, if it tells one
+abbrev pub line_of : Ending → Option ℕ
+line_of Finished = None
+line_of (BadLine n column) = Some n
+line_of (LineTooLong n) = Some n
+line_of (ScriptTooLong n) = Some n
+line_of ReadFailed = None
+line_of Unread = None
 
 -- When a run that writes all that is due has this status: all was read and carried out, or the script ended the
 -- run, or a read failed.

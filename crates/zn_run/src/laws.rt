@@ -1,5 +1,5 @@
 // Laws of runs, each the contract of a function that does nothing.
-ghost use Rattle.zn_run.specs.Laws.{DecidedStays, WholeLinesAlone, StatusesHaveCauses, FaultlessRuns, DoneRuns, WholeRuns};
+ghost use Rattle.zn_run.specs.Laws.{DecidedStays, WholeLinesAlone, StatusesHaveCauses, FaultlessRuns, DoneRuns, WholeRuns, UnreadRest};
 
 /// Once a line has ended a run, no bytes behind it matter.
 #[tactic(auto, using(crate::proofs::DecidedLaws::decided_stays))]
@@ -35,4 +35,10 @@ pub fn done_runs()
 #[tactic(auto, using(crate::proofs::RunLaws::whole_runs))]
 pub fn whole_runs()
     ensures { WholeRuns }
+{}
+
+/// Where the script or the host ends a run, the rest of the script is still unread.
+#[tactic(auto, using(crate::proofs::RunLaws::unread_rest))]
+pub fn unread_rest()
+    ensures { UnreadRest }
 {}

@@ -1,44 +1,36 @@
-// A whole script, taken from a source.
-ghost use Rattle.std.specs.Prelude.{◌≡◌, ◌<◌, MatchResult, length};
-ghost use Rattle.zn_run.specs.Script.{Takes, TakesSome};
+// The pieces of a script, read one at a time behind what is kept of it.
+ghost use Rattle.std.specs.Prelude.{◌≡◌, ◌≤◌, MatchResult, length, take};
+ghost use Rattle.zn_lines.specs.declared.limits.TheConstants.{LINE_LIMIT, SCRIPT_LIMIT};
+ghost use Rattle.zn_lines.specs.Transcript.{OneLine};
+ghost use Rattle.zn_run.specs.Script.{IsPiece, NoPiece};
 
-use std::alloc::{AllocError, Global};
-use zn_base::Source;
-use zn_lines::{SCRIPT_LIMIT, Tail};
+use zn_base::{ReadFault, Source};
+use zn_lines::SCRIPT_LIMIT;
 
-/// How many bytes are read at once.
-const CHUNK: usize = 65536;
+/// The most bytes that are read at once.
+const PIECE: usize = 65536;
 
-/// Takes the bytes of a script, up to its limit, and says what comes after them. Each read fills the chunk.
-fn take_in_chunks<S: Source>(
-    alloc: Global,
+/// The bytes of the buffer of lines: a line that no newline has ended yet, and a piece.
+pub const BUFFER: usize = 131072;
+
+/// Reads a piece into the buffer, behind the bytes that are kept there, and answers its length, which is 0 only at the
+/// end. So many bytes were taken before. None of those that are kept ends a line.
+pub fn read_piece<S: Source>(
     source: &mut S,
-    chunk: &mut [u8],
-) -> Result<(Vec<u8>, Tail), AllocError>
-    requires { 0 < length chunk.old }
-    ensures { MatchResult result
-        (λ found. Takes found.0.items found.1 (S.state source.old) (S.state source.new))
-        (λ _. TakesSome (S.state source.old) (S.state source.new)) }
+    buffer: &mut [u8],
+    kept: usize,
+    taken: usize,
+) -> Result<usize, ReadFault>
+    requires sized { length buffer.old ≡ BUFFER }
+    requires fits { kept ≤ LINE_LIMIT }
+    requires within { taken ≤ SCRIPT_LIMIT }
+    requires one { OneLine (take kept buffer.old) }
+    ensures sized { length buffer.new ≡ BUFFER }
+    ensures front { take kept buffer.new ≡ take kept buffer.old }
+    ensures piece { MatchResult result
+        (λ count. IsPiece count kept taken buffer.new (S.state source.old) (S.state source.new))
+        (λ _. NoPiece (S.state source.old) (S.state source.new)) }
 {
-    let mut script = Vec::new(alloc);
-    while script.len() <= SCRIPT_LIMIT {
-        let room = (SCRIPT_LIMIT + 1 - script.len()).min(chunk.len());
-        match source.read(&mut chunk[..room]) {
-            Ok(0) => return Ok((script, Tail::End)),
-            Ok(count) => script.extend_from_slice(&chunk[..count])?,
-            Err(_) => return Ok((script, Tail::Fault)),
-        }
-    }
-    script.truncate(SCRIPT_LIMIT);
-    Ok((script, Tail::Over))
-}
-
-/// Takes the bytes of a script, up to its limit, and says what comes after them.
-pub fn take_script<S: Source>(alloc: Global, source: &mut S) -> Result<(Vec<u8>, Tail), AllocError>
-    ensures { MatchResult result
-        (λ found. Takes found.0.items found.1 (S.state source.old) (S.state source.new))
-        (λ _. TakesSome (S.state source.old) (S.state source.new)) }
-{
-    let mut chunk = vec![in alloc; 0; CHUNK]?;
-    take_in_chunks(alloc, source, &mut chunk)
+    let room = (SCRIPT_LIMIT + 1 - taken).min(PIECE);
+    source.read(&mut buffer[kept..kept + room])
 }

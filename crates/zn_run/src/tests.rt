@@ -6,7 +6,7 @@ use std::alloc::Global;
 use std::process::Abort;
 use std::test::Fail;
 use zn_base::memory::{MemSink, MemSource};
-use zn_base::{Sink, write_all};
+use zn_base::{Sink, Source, write_all};
 
 /// A machine over nothing, which knows a few lines: it aborts at any other.
 #[derive(Drop)]
@@ -270,37 +270,84 @@ fn a_long_line_is_told(rt: HostRuntime) -> Result<(), Fail> {
     Ok(())
 }
 
+/// How many bytes a source of no more than 409,600 bytes has left.
+fn left_in(source: &mut MemSource) -> usize {
+    let mut buf = [0; 4096];
+    let mut total: usize = 0;
+    for _ in 0..100 {
+        if let Ok(count) = source.read(&mut buf) {
+            total = total.saturating_add(count);
+        }
+    }
+    total
+}
+
+fn leaves<R: Abort + Copy>(
+    rt: R,
+    alloc: Global,
+    script: Vec<u8>,
+    status: Status,
+    left: usize,
+) -> Result<(), Fail> {
+    let mut source = MemSource::new(script, Vec::new(alloc));
+    let mut sink = MemSink::new(alloc, 100, Vec::new(alloc))?;
+    let mut machine = Probe {
+        rt,
+        is_over: false,
+        breaks: 0,
+        steps: 0,
+    };
+    let got = run(alloc, &mut machine, &mut source, &mut sink);
+    assert_eq!(&rt; got, status);
+    assert_eq!(&rt; left_in(&mut source), left);
+    Ok(())
+}
+
 #[test]
-fn a_long_script_is_told(rt: HostRuntime) -> Result<(), Fail> {
+fn a_line_may_cross_the_border_of_pieces(rt: HostRuntime) -> Result<(), Fail> {
+    let alloc = rt.alloc();
+    for len in 65527..65537 {
+        is_told(
+            rt,
+            alloc,
+            comments(alloc, 1, len, b"close 0\nclose 0")?,
+            Status::Done,
+            "error not-mounted\nerror not-mounted\n",
+        )?;
+    }
+    Ok(())
+}
+
+#[test]
+fn lines_are_carried_out_before_more_is_read(rt: HostRuntime) -> Result<(), Fail> {
+    let alloc = rt.alloc();
+    let others = comments(alloc, 3, 65535, b"")?;
+    let mut bad = Vec::from_slice(alloc, b"close\n")?;
+    bad.extend_from_slice(&others)?;
+    leaves(rt, alloc, bad, Status::Script, 131078)?;
+    let mut breaks = comments(alloc, 1, 65530, b"size 0\n")?;
+    breaks.extend_from_slice(&others)?;
+    leaves(rt, alloc, breaks, Status::HostFault, 131074)?;
+    Ok(())
+}
+
+#[test]
+fn a_long_script_is_carried_out(rt: HostRuntime) -> Result<(), Fail> {
     let alloc = rt.alloc();
     is_told(
         rt,
         alloc,
-        comments(alloc, 256, 65535, b"")?,
+        comments(alloc, 300, 65536, b"close 0\n")?,
         Status::Done,
-        "",
-    )?;
-    is_told(
-        rt,
-        alloc,
-        comments(alloc, 256, 65535, b"#")?,
-        Status::Script,
-        "script-too-long 257\n",
+        "error not-mounted\n",
     )?;
     let two_lines = vec![in alloc; b'#'; 131073]?;
     is_told(
         rt,
         alloc,
-        comments(alloc, 254, 65535, &two_lines)?,
+        comments(alloc, 299, 65535, &two_lines)?,
         Status::Script,
-        "line-too-long 255\n",
-    )?;
-    is_told(
-        rt,
-        alloc,
-        comments(alloc, 255, 65535, &two_lines)?,
-        Status::Script,
-        "script-too-long 256\n",
+        "line-too-long 300\n",
     )?;
     Ok(())
 }

@@ -1,5 +1,7 @@
 pub mod ByFacts
 pub mod Counts
+pub mod MarkLaws
+pub mod KeptLaws
 pub mod Refusals
 pub mod Steps
 pub mod CarriedOut

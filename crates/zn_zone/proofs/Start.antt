@@ -88,7 +88,8 @@ start_fits shape kinds infos start k below =
     (fits_start shape p.0 p.1.cond p.1.held p.1.explicit
     (subst (λ (zone : ZoneFacts). IsStartZone shape zone) (reported_at shape kinds infos k) (start.zones k (omega (arith, inside, length-map (zip kinds infos) reported_zone)))))
 
-start_none_open : (shape : Shape) (ps : List (Kind × ZoneInfo)) → open_in (map (state_at_start shape) ps) ≡ 0
+-- No zone is open.
+pub start_none_open : (shape : Shape) (ps : List (Kind × ZoneInfo)) → open_in (map (state_at_start shape) ps) ≡ 0
 start_none_open shape ps =
     count_by-map (λ (zone : State). is_open zone.raw) (state_at_start shape) ps
     ∙ count_by-same (λ (p : Kind × ZoneInfo). is_open (state_at_start shape p).raw) (λ _. false) ps nothing

@@ -6,7 +6,7 @@ ghost use Rattle.zn_zone.specs.Table.{cond_of};
 ghost use Rattle.zn_zone.specs.Machine.{changing, held_after, machine, state_at, state_in, unless, written, managed, write_refusal, manage_refusal, read_refusal};
 
 use crate::places::take_step;
-use crate::state::State;
+use crate::states::States;
 use crate::table::Step;
 use crate::{Raw, ZoneError};
 use zn_truth::{Kind, Shape, ZoneOp};
@@ -26,18 +26,18 @@ fn may_change(raw: Raw) -> Result<(), ZoneError>
 /// Writes at the end of a zone, unless it is refused.
 pub fn write_at(
     shape: Shape,
-    zones: &mut Vec<State>,
+    zones: &mut States,
     z: usize,
     at: u32,
     blocks: u32,
 ) -> Result<(), ZoneError>
-    requires zone { z < length zones.old.items }
-    requires room { at + blocks ≤ room shape (state_in zones.old.items z).kind }
-    ensures reply { result ≡ unless (write_refusal (machine shape zones.old.items) z at) }
-    ensures ok { OnOk result (machine shape zones.new.items ≡ written (machine shape zones.old.items) z blocks) }
-    ensures err { OnErr result (machine shape zones.new.items ≡ machine shape zones.old.items) }
+    requires zone { z < length zones.old }
+    requires room { at + blocks ≤ room shape (state_in zones.old z).kind }
+    ensures reply { result ≡ unless (write_refusal (machine shape zones.old) z at) }
+    ensures ok { OnOk result (machine shape zones.new ≡ written (machine shape zones.old) z blocks) }
+    ensures err { OnErr result (machine shape zones.new ≡ machine shape zones.old) }
 {
-    let zone = zones[z];
+    let zone = zones.at(z);
     may_change(zone.raw)?;
     match zone.kind {
         Kind::Conventional => Ok(()),
@@ -64,18 +64,13 @@ fn held_after(op: ZoneOp, shape: Shape, held: u32) -> u32
 }
 
 /// Manages a zone, unless it is refused.
-pub fn manage_at(
-    shape: Shape,
-    zones: &mut Vec<State>,
-    z: usize,
-    op: ZoneOp,
-) -> Result<(), ZoneError>
-    requires zone { z < length zones.old.items }
-    ensures reply { result ≡ unless (manage_refusal (machine shape zones.old.items) z op) }
-    ensures ok { OnOk result (machine shape zones.new.items ≡ managed (machine shape zones.old.items) z op) }
-    ensures err { OnErr result (machine shape zones.new.items ≡ machine shape zones.old.items) }
+pub fn manage_at(shape: Shape, zones: &mut States, z: usize, op: ZoneOp) -> Result<(), ZoneError>
+    requires zone { z < length zones.old }
+    ensures reply { result ≡ unless (manage_refusal (machine shape zones.old) z op) }
+    ensures ok { OnOk result (machine shape zones.new ≡ managed (machine shape zones.old) z op) }
+    ensures err { OnErr result (machine shape zones.new ≡ machine shape zones.old) }
 {
-    let zone = zones[z];
+    let zone = zones.at(z);
     may_change(zone.raw)?;
     take_step(
         shape,
@@ -87,11 +82,11 @@ pub fn manage_at(
 }
 
 /// Whether blocks of a zone may be read, up to this one.
-pub fn read_to(shape: Shape, zones: &[State], z: usize, end: u32) -> Result<(), ZoneError>
+pub fn read_to(shape: Shape, zones: &States, z: usize, end: u32) -> Result<(), ZoneError>
     requires zone { z < length zones.now }
     ensures { result ≡ unless (read_refusal (machine shape zones.now) z end) }
 {
-    let zone = zones[z];
+    let zone = zones.at(z);
     if zone.raw == Raw::Offline {
         Err(ZoneError::Offline)
     } else if zone.held < end {

@@ -4,9 +4,11 @@
 
 mod commands;
 pub mod laws;
+mod marks;
 mod moves;
 mod places;
 mod state;
+mod states;
 mod table;
 #[cfg(test)]
 mod tests;

@@ -4,6 +4,7 @@ ghost use Rattle.std.specs.List.{zip};
 ghost use Rattle.zn_zone.specs.Machine.{at_rest, cut_to, state_in, state_at_start, turned_to};
 
 use crate::state::State;
+use crate::states::States;
 use std::alloc::{AllocError, Global};
 use zn_truth::{Cond, Kind, Shape, ZoneInfo};
 
@@ -24,26 +25,29 @@ pub fn states_at_start(
 }
 
 /// A zone turns to a worse condition.
-pub fn turn_at(zones: &mut Vec<State>, z: usize, to: Cond)
-    requires { z < length zones.old.items }
-    ensures { zones.new.items ≡ slice_set zones.old.items z (turned_to to (state_in zones.old.items z)) }
+pub fn turn_at(zones: &mut States, z: usize, to: Cond)
+    requires { z < length zones.old }
+    ensures { zones.new ≡ slice_set zones.old z (turned_to to (state_in zones.old z)) }
 {
-    zones[z] = zones[z].turned_to(to);
+    let turned = zones.at(z).turned_to(to);
+    zones.put(z, turned);
 }
 
 /// A zone is cut to so many blocks.
-pub fn cut_at(shape: Shape, zones: &mut Vec<State>, z: usize, len: u32)
-    requires { z < length zones.old.items }
-    ensures { zones.new.items ≡ slice_set zones.old.items z (cut_to shape (state_in zones.old.items z) len) }
+pub fn cut_at(shape: Shape, zones: &mut States, z: usize, len: u32)
+    requires { z < length zones.old }
+    ensures { zones.new ≡ slice_set zones.old z (cut_to shape (state_in zones.old z) len) }
 {
-    zones[z] = zones[z].cut_to(shape, len);
+    let cut = zones.at(z).cut_to(shape, len);
+    zones.put(z, cut);
 }
 
 /// Closes every open zone.
-pub fn rest_all(zones: &mut Vec<State>)
-    ensures { zones.new.items ≡ map at_rest zones.old.items }
+pub fn rest_all(zones: &mut States)
+    ensures { zones.new ≡ map at_rest zones.old }
 {
-    for zone in zones.iter_mut() {
-        *zone = zone.at_rest();
+    for z in 0..zones.len() {
+        let zone = zones.at(z).at_rest();
+        zones.put(z, zone);
     }
 }

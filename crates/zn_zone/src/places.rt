@@ -1,46 +1,31 @@
 // The places among the open and the active zones, and the steps that take them.
 ghost use Rattle.std.specs.Prelude.{◌≡◌, ◌<◌, length, OnOk, OnErr};
 ghost use Rattle.zn_zone.specs.Table.{needs};
-ghost use Rattle.zn_zone.specs.Machine.{state_in, active_in, open_in, first_implicit, with_open_place, no_open_place, with_places, no_places, stepped, unless};
+ghost use Rattle.zn_zone.specs.Machine.{state_in, with_open_place, no_open_place, with_places, no_places, stepped};
+ghost use Rattle.zn_zone.specs.Machine.{unless};
 
 use crate::state::State;
+use crate::states::States;
 use crate::table::{Places, Step};
 use crate::{Raw, ZoneError};
 use zn_truth::{Shape, is_reached};
 
-/// How many zones are active.
-fn count_active(zones: &[State]) -> usize
-    ensures { result ≡ active_in zones.now }
-{
-    zones.iter().filter(|zone| zone.raw.is_active()).count()
-}
-
-/// How many zones are open.
-fn count_open(zones: &[State]) -> usize
-    ensures { result ≡ open_in zones.now }
-{
-    zones.iter().filter(|zone| zone.raw.is_open()).count()
-}
-
-/// The lowest-numbered implicitly open zone.
-fn first_implicit(zones: &[State]) -> Option<usize>
-    ensures { result ≡ first_implicit zones.now }
-{
-    zones.iter().position(|zone| zone.raw.is_implicit())
-}
-
 /// Takes a place among the open zones. Where none is free, the lowest-numbered implicitly open zone is
 /// closed and gives its place.
-fn take_open_place(shape: Shape, zones: &mut Vec<State>) -> Result<(), ZoneError>
-    ensures reply { result ≡ unless (no_open_place shape zones.old.items) }
-    ensures zones { zones.new.items ≡ with_open_place shape zones.old.items }
+fn take_open_place(shape: Shape, zones: &mut States) -> Result<(), ZoneError>
+    ensures reply { result ≡ unless (no_open_place shape zones.old) }
+    ensures zones { zones.new ≡ with_open_place shape zones.old }
 {
-    if !is_reached(shape.max_open, count_open(zones)) {
+    if !is_reached(shape.max_open, zones.open()) {
         return Ok(());
     }
-    match first_implicit(zones) {
+    match zones.first_implicit() {
         Some(i) => {
-            zones[i].raw = Raw::Closed;
+            let closed = State {
+                raw: Raw::Closed,
+                ..zones.at(i)
+            };
+            zones.put(i, closed);
             Ok(())
         }
         None => Err(ZoneError::TooManyOpen),
@@ -48,16 +33,16 @@ fn take_open_place(shape: Shape, zones: &mut Vec<State>) -> Result<(), ZoneError
 }
 
 /// Takes the places, or changes nothing.
-fn take_places(shape: Shape, zones: &mut Vec<State>, places: Places) -> Result<(), ZoneError>
-    ensures reply { result ≡ unless (no_places shape zones.old.items places) }
-    ensures ok { OnOk result (zones.new.items ≡ with_places shape zones.old.items places) }
-    ensures err { OnErr result (zones.new.items ≡ zones.old.items) }
+fn take_places(shape: Shape, zones: &mut States, places: Places) -> Result<(), ZoneError>
+    ensures reply { result ≡ unless (no_places shape zones.old places) }
+    ensures ok { OnOk result (zones.new ≡ with_places shape zones.old places) }
+    ensures err { OnErr result (zones.new ≡ zones.old) }
 {
     match places {
         Places::NoPlace => Ok(()),
         Places::OpenPlace => take_open_place(shape, zones),
         Places::BothPlaces => {
-            if is_reached(shape.max_active, count_active(zones)) {
+            if is_reached(shape.max_active, zones.active()) {
                 return Err(ZoneError::TooManyActive);
             }
             take_open_place(shape, zones)
@@ -68,22 +53,23 @@ fn take_places(shape: Shape, zones: &mut Vec<State>, places: Places) -> Result<(
 /// A step of a zone, which then holds so many blocks.
 pub fn take_step(
     shape: Shape,
-    zones: &mut Vec<State>,
+    zones: &mut States,
     z: usize,
     step: Step,
     held: u32,
 ) -> Result<(), ZoneError>
-    requires zone { z < length zones.old.items }
-    ensures reply { result ≡ unless (no_places shape zones.old.items (needs (state_in zones.old.items z).raw step)) }
-    ensures ok { OnOk result (zones.new.items ≡ stepped shape zones.old.items z step held) }
-    ensures err { OnErr result (zones.new.items ≡ zones.old.items) }
+    requires zone { z < length zones.old }
+    ensures reply { result ≡ unless (no_places shape zones.old (needs (state_in zones.old z).raw step)) }
+    ensures ok { OnOk result (zones.new ≡ stepped shape zones.old z step held) }
+    ensures err { OnErr result (zones.new ≡ zones.old) }
 {
-    let zone = zones[z];
+    let zone = zones.at(z);
     take_places(shape, zones, zone.raw.needs(step))?;
-    zones[z] = State {
+    let stepped = State {
         raw: zone.raw.next(step),
         held,
         ..zone
     };
+    zones.put(z, stepped);
     Ok(())
 }

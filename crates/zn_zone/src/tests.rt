@@ -121,3 +121,65 @@ fn limits_and_conditions(rt: HostRuntime) -> Result<(), Fail> {
     }
     Ok(())
 }
+
+/// 130 empty sequential zones of two blocks, of which two may be open.
+fn many_zones(alloc: Global) -> Result<Zones, AllocError> {
+    let kinds = [Kind::Sequential; 130];
+    let info = [EMPTY; 130];
+    let shape = Shape {
+        zone_blocks: 2,
+        zone_capacity: 2,
+        max_open: 2,
+        max_active: 0,
+    };
+    Zones::new(alloc, &kinds, shape, &info)
+}
+
+/// Each call with its answer, and what zones 64, 65 and 129 are after it.
+#[test]
+fn lowest_of_many(rt: HostRuntime) -> Result<(), Fail> {
+    let mut zones = many_zones(rt.alloc())?;
+    let empty = Raw::Empty;
+    let opened = Raw::ImplicitOpen;
+    let closed = Raw::Closed;
+    let calls = [
+        (Call::Write(129, 0, 1), Ok(()), [empty, empty, opened]),
+        (Call::Write(65, 0, 1), Ok(()), [empty, opened, opened]),
+        (Call::Write(64, 0, 1), Ok(()), [opened, closed, opened]),
+        (Call::Write(0, 0, 1), Ok(()), [closed, closed, opened]),
+        (
+            Call::Manage(0, ZoneOp::Open),
+            Ok(()),
+            [closed, closed, opened],
+        ),
+        (Call::Write(1, 0, 1), Ok(()), [closed, closed, closed]),
+        (
+            Call::Manage(1, ZoneOp::Open),
+            Ok(()),
+            [closed, closed, closed],
+        ),
+        (
+            Call::Write(2, 0, 1),
+            Err(ZoneError::TooManyOpen),
+            [closed, closed, closed],
+        ),
+        (
+            Call::Manage(0, ZoneOp::Reset),
+            Ok(()),
+            [closed, closed, closed],
+        ),
+        (Call::Write(129, 1, 1), Ok(()), [closed, closed, Raw::Full]),
+        (
+            Call::Write(64, 1, 1),
+            Ok(()),
+            [Raw::Full, closed, Raw::Full],
+        ),
+    ];
+    for (i, (made, want, ends)) in calls.into_iter().enumerate() {
+        assert_eq!(rt; carry_out(&rt, &mut zones, made), want, "call {i}");
+        for (z, end) in [64, 65, 129].into_iter().zip(ends) {
+            assert_eq!(rt; raw(&rt, &zones, z), end, "zone {z} after call {i}");
+        }
+    }
+    Ok(())
+}

@@ -13,7 +13,7 @@ ghost use Rattle.zn_zone.specs.Machine.{state_at, with_state, facts, refusal_in,
 
 use crate::commands::{manage_at, read_to, write_at};
 use crate::moves::{cut_at, rest_all, states_at_start, turn_at};
-use crate::state::State;
+use crate::states::States;
 use crate::{Raw, ZoneError};
 use std::alloc::{AllocError, Global};
 use std::marker::Model;
@@ -23,7 +23,7 @@ use zn_truth::{Cond, Kind, Shape, ZoneInfo, ZoneNo, ZoneOp};
 #[derive(Drop)]
 pub struct Zones {
     shape: Shape,
-    zones: Vec<State>,
+    zones: States,
 }
 
 impl Model for Zones {
@@ -31,9 +31,9 @@ impl Model for Zones {
 
     ghost Value = { Machine };
 
-    ghost view = { λ z. machine z.shape z.zones.items };
+    ghost view = { λ z. machine z.shape z.zones };
 
-    ghost invariant = { λ z. IsSoundMachine (machine z.shape z.zones.items) };
+    ghost invariant = { λ z. IsSoundMachine (machine z.shape z.zones) };
 }
 
 impl Zones {
@@ -53,6 +53,7 @@ impl Zones {
         ensures sound { IfOk result IsSoundMachine }
     {
         let zones = states_at_start(alloc, shape, kinds, info)?;
+        let zones = States::new(alloc, zones)?;
         Ok(Zones { shape, zones })
     }
 
@@ -145,7 +146,7 @@ impl Zones {
         requires { z.0 < length self.now.zones }
         ensures { result ≡ (state_at self.now z.0).raw }
     {
-        self.zones[z.0 as usize].raw
+        self.zones.at(z.0 as usize).raw
     }
 
     /// The kind of a zone.
@@ -153,7 +154,7 @@ impl Zones {
         requires { z.0 < length self.now.zones }
         ensures { result ≡ (state_at self.now z.0).kind }
     {
-        self.zones[z.0 as usize].kind
+        self.zones.at(z.0 as usize).kind
     }
 
     /// What a report tells of a zone.
@@ -161,7 +162,7 @@ impl Zones {
         requires { z.0 < length self.now.zones }
         ensures { result ≡ info_of (facts_at (facts self.now) z.0) }
     {
-        let zone = self.zones[z.0 as usize];
+        let zone = self.zones.at(z.0 as usize);
         ZoneInfo {
             cond: zone.raw.cond(),
             held: zone.held,

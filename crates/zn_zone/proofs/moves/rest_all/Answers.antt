@@ -4,5 +4,5 @@ use Rattle.std.proofs.lemmas.List.Edits.{map_over_more}
 use Rattle.zn_zone.specs.Machine.{at_rest}
 use Rattle.zn_zone.proofs.moves.rest_all.Goals as goal
 
-pub loop-zone-preserved : goal.loop-zone-preserved
-loop-zone-preserved c = grind (arith, common_steps, map_over_more at_rest)
+pub loop-z-preserved : goal.loop-z-preserved
+loop-z-preserved c = grind (arith, common_steps, map_over_more at_rest)

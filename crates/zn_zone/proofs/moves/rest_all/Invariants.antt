@@ -3,5 +3,5 @@ use Rattle.zn_zone.specs.Machine.{at_rest}
 use Rattle.zn_zone.proofs.moves.rest_all.Given as goal
 
 -- those before the index are closed
-abbrev pub invariant-loop-zone : goal.invariant-loop-zone
-invariant-loop-zone l = l.zone-items ≡ map at_rest (take l.zone-index l.initial.zone-items) ++ drop l.zone-index l.initial.zone-items
+abbrev pub invariant-loop-z : goal.invariant-loop-z
+invariant-loop-z l = l.zones ≡ map at_rest (take l.z l.initial.zones) ++ drop l.z l.initial.zones

@@ -1,7 +1,5 @@
-use Rattle.std.proofs.Common.{ap, ◌∙◌}
-use Rattle.zn_zone.specs.Machine.{machine}
 use Rattle.zn_zone.proofs.Refusals.{read_answered}
 use Rattle.zn_zone.proofs.zones.Zones.may_read.Goals as goal
 
 pub returns : goal.returns
-returns c = read_answered _ _ _ _ _ c.read_to.ensures (ap (machine c.self.inside.shape) c.deref.ensures.value ∙ c.self.view_is)
+returns c = read_answered _ _ _ _ _ c.read_to.ensures c.self.view_is
