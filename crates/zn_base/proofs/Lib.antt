@@ -1,6 +1,5 @@
 pub mod DecimalLaws
 pub mod FewestRuns
-pub mod LaneLaws
 pub mod PartLaws
 pub mod RunLaws
 pub mod ToldLaws

@@ -1,5 +1,5 @@
 -- A source and a sink in memory, as their callers see them, and what each call of them does. (own)
-use Rattle.std.specs.Prelude.{◌≡◌, ℕ, ◌+◌, ◌<◌, ◌↔◌, ◌⊎◌, min, List, Some, length, Result, IsErr, IfOk, OnErr, Contains}
+use Rattle.std.specs.Prelude.{◌≡◌, ℕ, ◌+◌, ◌<◌, ◌↔◌, ◌⊎◌, min, false, List, Some, length, Result, IsErr, IfOk, OnErr, Contains}
 use Rattle.zn_base.specs.Causes.{one_more}
 use Rattle.zn_base.specs.States.{SourceState, SinkState}
 
@@ -23,9 +23,9 @@ pub record MemSinkState : Type 0 where
 abbrev pub source_state : MemSourceState → SourceState
 source_state s = record { left = Some s.left; faults = s.faults }
 
--- it tells its bytes
+-- it tells its bytes, and holds none back
 abbrev pub sink_state : MemSinkState → SinkState
-sink_state s = record { written = Some s.bytes; faults = s.faults }
+sink_state s = record { written = Some s.bytes; held_back = false; faults = s.faults }
 
 -- A read fails exactly where its number is listed, and else gives as much as the buffer takes.
 pub record MemReads {E : Type 0} (old new : MemSourceState) (buf : List ℕ) (result : Result ℕ E) : Type 0 where

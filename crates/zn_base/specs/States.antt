@@ -1,5 +1,5 @@
 -- What callers see of a source and of a sink, and what their calls make of it. (own)
-use Rattle.std.specs.Prelude.{ℕ, List, Option, Result, OnOk, OnErr}
+use Rattle.std.specs.Prelude.{ℕ, Bool, List, Option, Result, OnOk, OnErr}
 use Rattle.zn_base.specs.Causes.{HasCause}
 use Rattle.zn_base.specs.Told.{Grew, GrewToward, ReadGave, WriteGrew}
 
@@ -8,9 +8,11 @@ pub record SourceState : Type 0 where
   pub left : Option (List ℕ)
   pub faults : ℕ
 
--- A sink: the bytes that were written, where they are told, and how often a write has failed.
+-- A sink: the bytes that were written, where they are told, whether some of them may be held back in it, and how often
+-- a write has failed.
 pub record SinkState : Type 0 where
   pub written : Option (List ℕ)
+  pub held_back : Bool
   pub faults : ℕ
 
 -- What a read did: the bytes that it gave, and its cause where it failed.

@@ -145,6 +145,10 @@ impl Sink for MemSink {
         Ok(count)
     }
 
+    fn flush(&mut self) -> Result<(), WriteFault> {
+        Ok(())
+    }
+
     fn faults(&self) -> u64 {
         self.faults
     }

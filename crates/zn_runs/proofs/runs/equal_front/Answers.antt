@@ -1,6 +1,6 @@
 use Rattle.std.proofs.Common.{arith}
-use Rattle.zn_base.proofs.LaneLaws.{equal_more, equal_until, equal_whole}
-use Rattle.zn_base.proofs.runs.equal_front.Goals as goal
+use Rattle.zn_runs.proofs.LaneLaws.{equal_more, equal_until, equal_whole}
+use Rattle.zn_runs.proofs.runs.equal_front.Goals as goal
 
 pub returns-then-count-lt-LANES : goal.returns-then-count-lt-LANES
 returns-then-count-lt-LANES c =

@@ -5,8 +5,7 @@ ghost use Rattle.std.specs.List.{prefix_len};
 ghost use Rattle.zn_base.specs.States.{Writes};
 ghost use Rattle.zn_base.specs.Runs.{run_text, data_text};
 
-use crate::texts::{Part, write_parts};
-use crate::{Sink, WriteFault};
+use zn_base::{Part, Sink, WriteFault, write_parts};
 use std::simd::prelude::*;
 
 const LANES: usize = 32;

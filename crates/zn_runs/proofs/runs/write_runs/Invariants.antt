@@ -1,6 +1,6 @@
 use Rattle.std.proofs.Common.{◌≡◌, ◌≤◌, ◌-◌, length}
 use Rattle.zn_base.proofs.RunLaws.{RunsSoFar}
-use Rattle.zn_base.proofs.runs.write_runs.Given as goal
+use Rattle.zn_runs.proofs.runs.write_runs.Given as goal
 
 -- the runs before this place are written
 abbrev pub invariant-loop-at : goal.invariant-loop-at

@@ -1,6 +1,6 @@
 use Rattle.std.proofs.Common.{arith}
-use Rattle.zn_base.proofs.LaneLaws.{no_lane_differs, some_lane_differs}
-use Rattle.zn_base.proofs.runs.equal_lanes.Goals as goal
+use Rattle.zn_runs.proofs.LaneLaws.{no_lane_differs, some_lane_differs}
+use Rattle.zn_runs.proofs.runs.equal_lanes.Goals as goal
 
 pub returns-then-others-eq0 : goal.returns-then-others-eq0
 returns-then-others-eq0 c =

@@ -1,7 +1,7 @@
 use Rattle.std.proofs.Common.{arith, rules, refl, ◌∙◌}
 use Rattle.std.proofs.lemmas.Grind.{common_steps}
 use Rattle.zn_base.proofs.RunLaws.{next_run, run_more, run_cut, runs_end}
-use Rattle.zn_base.proofs.runs.write_runs.Goals as goal
+use Rattle.zn_runs.proofs.runs.write_runs.Goals as goal
 
 pub loop-at-preserved : goal.loop-at-preserved
 loop-at-preserved g c =

@@ -1,5 +1,5 @@
 use Rattle.std.proofs.Common.{◌≡◌, ℕ, ◌<◌, ◌≤◌, ◌-◌, length, get_or}
-use Rattle.zn_base.proofs.runs.equal_front.Given as goal
+use Rattle.zn_runs.proofs.runs.equal_front.Given as goal
 
 -- each byte so far is this one
 abbrev pub invariant-lanes : goal.invariant-lanes

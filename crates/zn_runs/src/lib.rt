@@ -1,0 +1,8 @@
+//! Writes bytes as runs of equal bytes.
+#![tactic(auto)]
+
+mod runs;
+#[cfg(test)]
+mod tests;
+
+pub use runs::write_runs;
