@@ -24,7 +24,7 @@ use Rattle.zn_run.specs.declared.status.Status.{Status}
 use Rattle.zn_run.specs.declared.status.Status.TheVariants.{Done, Script, HostFault, ReadFault as unread, WriteFault, Memory}
 use Rattle.zn_run.proofs.TranscriptLaws.{line_long, last_is}
 use Rattle.zn_run.proofs.LineLaws.{added_none, reached_here, first_line_last}
-use Rattle.zn_run.proofs.RanLaws.{whole_along, given_of, closes, given_ended, comes_script, ran_done, ran_starved, ran_broken, ran_cut}
+use Rattle.zn_run.proofs.RanLaws.{whole_along, given_of, closes, given_ended, comes_script, ran_starved, ran_broken, ran_cut}
 
 -- ---- the transcript
 
@@ -68,9 +68,10 @@ done_last (Ok (Some l)) old new n line one some fits reads d =
     (record { ends = (refl, refl); last = refl; table = d.table; breaks = d.breaks; spoilt = d.spoilt; replies = subst T (sym (append-nil reply)) d.reply }))
 done_last (Err column) old new n line one some fits reads d = absurd d
 
-pub last_done : {old new : State} {line : List ℕ} (n : ℕ) → OneLine line → 0 < length line → length line ≤ 65536 → Stepped done_step (reading_of line) old new → Ran Done End n line old new
-last_done {old = old} {new = new} {line = line} n one some fits s =
-    ran_done (done_last (reading_of line) old new n line one some fits refl s.means.means)
+pub last_done : {result : Status} {old : State} {line : List ℕ} {machine : MachineState} {sink sink' : SinkState} (n : ℕ) → OneLine line → 0 < length line → length line ≤ 65536 → Stepped done_step (reading_of line) old (state_of machine sink)
+    → Closed result Done [] sink sink' → Ran result End n line old (state_of machine sink')
+last_done {old = old} {line = line} {machine = machine} {sink = sink} n one some fits s c =
+    closes (done_last (reading_of line) old (state_of machine sink) n line one some fits refl s.means.means) c
 
 -- a last line of the grammar that was not answered
 abbrev stopped_last : {step : Step} {old new : State} {line : List ℕ} (n : ℕ) → old.machine.over ≡ false → OneLine line → 0 < length line → length line ≤ 65536 → Stepped step (reading_of line) old new → (l : Line) → reading_of line ≡ Ok (Some l)
@@ -103,11 +104,12 @@ last_starved n goes_on one some fits s c = ran_starved (stopped_last n goes_on o
 -- ---- no line
 
 -- nothing is left
-pub none_left : {tail : Tail} (old : State) (n : ℕ) (rest : List ℕ) → OneLine rest → length rest ≤ 65536 → tail ≡ End → length rest ≡ 0 → Ran Done tail n rest old old
-none_left {tail = tail} old n rest one fits is empty =
-    ran_done (given_of []
-    (whole_along (tail_is [] tail End old.machine.table n rest one fits is ∙ none_is [] old.machine.table n rest empty)
-    (record { ends = (is, refl); last = refl; table = refl; breaks = refl; spoilt = refl; replies = added_none old.sink })))
+pub none_left : {result : Status} {tail : Tail} {machine : MachineState} {sink sink' : SinkState} (n : ℕ) (rest : List ℕ) → OneLine rest → length rest ≤ 65536 → tail ≡ End → length rest ≡ 0 → Closed result Done [] sink sink'
+    → Ran result tail n rest (state_of machine sink) (state_of machine sink')
+none_left {tail = tail} {machine = machine} {sink = sink} n rest one fits is empty c =
+    let whole = whole_along (tail_is [] tail End machine.table n rest one fits is ∙ none_is [] machine.table n rest empty) (record { ends = (is, refl); last = refl; table = refl; breaks = refl; spoilt = refl; replies = added_none sink }) in
+    let given : RanGiven Done tail n rest [] (state_of machine sink) (state_of machine sink) = given_of [] whole in
+    closes given c
 
 -- the script ends the run before the rest
 pub script_here : {result : Status} {tail : Tail} {machine : MachineState} {sink sink' : SinkState} (n : ℕ) (rest : List ℕ) (by : Ending) → machine.over ≡ false → IsNear tail rest → IsScriptFault by → line_of by ≡ Some n

@@ -1,6 +1,7 @@
 pub mod TranscriptLaws
 pub mod DecidedLaws
 pub mod LineLaws
+pub mod EndLaws
 pub mod ProgressLaws
 pub mod RanLaws
 pub mod LastLaws

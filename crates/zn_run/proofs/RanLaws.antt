@@ -1,8 +1,8 @@
 -- What a run of some bytes did: behind the lines before, and by its last line.
-use Rattle.std.proofs.Common.{◌≡◌, ℕ, Bool, true, false, List, [], ◌++◌, take, length, length-append, Some, refl, ap, sym, subst, ◌∙◌, inl, inr, arith}
+use Rattle.std.proofs.Common.{◌≡◌, ℕ, Bool, true, false, List, [], ◌++◌, take, length, length-append, Some, refl, ap, sym, subst, ◌∙◌, Ok, inl, inr, arith}
 use Rattle.std.proofs.lemmas.Bool.{false≢true}
 use Rattle.std.proofs.lemmas.List.{append-nil}
-use Rattle.zn_base.specs.States.{SinkState}
+use Rattle.zn_base.specs.States.{SinkState, Writes}
 use Rattle.zn_lines.specs.declared.limits.TheConstants.{SCRIPT_LIMIT}
 use Rattle.zn_lines.specs.declared.runs.Tail.{Tail}
 use Rattle.zn_lines.specs.declared.runs.Tail.TheVariants.{End, Fault as fault_tail, Over, More}
@@ -10,16 +10,17 @@ use Rattle.zn_lines.specs.declared.runs.Ending.{Ending}
 use Rattle.zn_lines.specs.Transcript.{Transcript, stop, with_text, transcript_at, last_line}
 use Rattle.zn_lines.proofs.ToldLines.{transcript_same}
 use Rattle.zn_run.specs.Endings.{out_of_memory, host_fault}
-use Rattle.zn_run.specs.Headline.{Closes, Closed, RanWhole, RanGiven, RanBroken, ComesTo, ToLast, RanTo, RanCut, in_reply, in_last, Ran, RunsBy}
-use Rattle.zn_run.specs.Progress.{CarriedOut, Reached, StoppedBy, IsEnded, IsBroken}
-use Rattle.zn_run.specs.States.{MachineState, State, state_of, Added}
+use Rattle.zn_run.specs.Headline.{Closes, Closed, RanWhole, RanGiven, RanBroken, ComesTo, ToLast, RanTo, RanCut, in_reply, behind, in_last, RanMeans, Ran, RunsBy}
+use Rattle.zn_run.specs.Progress.{CarriedOut, Reached, StoppedBy, IsRest, IsEnded, IsBroken}
+use Rattle.zn_run.specs.States.{MachineState, State, state_of, Added, CutOff}
 use Rattle.zn_run.specs.Script.{IsNear}
 use Rattle.zn_run.specs.Statuses.{EndsBy, IsScriptFault, line_of}
 use Rattle.zn_run.specs.Steps.{Unmoved}
 use Rattle.zn_run.specs.declared.machine.Step.TheVariants.{SinkFault as cut_step, Memory as starved_step}
 use Rattle.zn_run.specs.declared.status.Status.{Status}
 use Rattle.zn_run.specs.declared.status.Status.TheVariants.{Done, Usage, Script, Directory, HostFault, ReadFault, WriteFault, Memory}
-use Rattle.zn_run.proofs.LineLaws.{added_none, added_then, reached_behind, stopped_behind, transcript_reached}
+use Rattle.zn_run.proofs.EndLaws.{added_flushed}
+use Rattle.zn_run.proofs.LineLaws.{added_then, reached_behind, stopped_behind, transcript_reached}
 
 -- ---- whole transcripts
 
@@ -44,30 +45,26 @@ given_of {old = old} givens r = given_by old.machine.table.world.truth.told refl
 -- ---- by the last line
 
 -- the last line was to be written, and the machine is left alone
-closes_by : {result : Status} {tail : Tail} {first : ℕ} {script : List ℕ} {old new : State} (status : Status) (to : ToLast status tail first script old new) → Closes result status to.line to.sink new.sink → Ran result tail first script old new
+closes_by : {result : Status} {tail : Tail} {first : ℕ} {script : List ℕ} {old new : State} (status : Status) (to : ToLast status tail first script old new) → Closes result status to.line to.sink new.sink → RanMeans result tail first script old new
 closes_by {tail = tail} {first = first} {script = script} {old = old} {new = new} status to (inr c) =
-    let F : Status → Type 0 = λ s. Ran s tail first script old new in subst F (sym c.0) (record { means = in_last status to c.1 })
+    let F : Status → Type 0 = λ s. RanMeans s tail first script old new in subst F (sym c.0) (in_last status to c.1)
 closes_by {tail = tail} {first = first} {script = script} {old = old} {new = new} Done to (inl c) =
-    let F : Status → Type 0 = λ s. Ran s tail first script old new in subst F (sym c.0) (record { means = record { to = to; written = c.1 } })
+    let F : Status → Type 0 = λ s. RanMeans s tail first script old new in subst F (sym c.0) (record { to = to; written = c.1 })
 closes_by Usage to (inl c) = absurd to.comes
 closes_by {tail = tail} {first = first} {script = script} {old = old} {new = new} Script to (inl c) =
-    let F : Status → Type 0 = λ s. Ran s tail first script old new in subst F (sym c.0) (record { means = record { to = to; written = c.1 } })
+    let F : Status → Type 0 = λ s. RanMeans s tail first script old new in subst F (sym c.0) (record { to = to; written = c.1 })
 closes_by Directory to (inl c) = absurd to.comes
 closes_by {tail = tail} {first = first} {script = script} {old = old} {new = new} HostFault to (inl c) =
-    let F : Status → Type 0 = λ s. Ran s tail first script old new in subst F (sym c.0) (record { means = record { to = to; written = c.1 } })
+    let F : Status → Type 0 = λ s. RanMeans s tail first script old new in subst F (sym c.0) (record { to = to; written = c.1 })
 closes_by {tail = tail} {first = first} {script = script} {old = old} {new = new} ReadFault to (inl c) =
-    let F : Status → Type 0 = λ s. Ran s tail first script old new in subst F (sym c.0) (record { means = record { to = to; written = c.1 } })
+    let F : Status → Type 0 = λ s. RanMeans s tail first script old new in subst F (sym c.0) (record { to = to; written = c.1 })
 closes_by WriteFault to (inl c) = absurd to.comes
 closes_by {tail = tail} {first = first} {script = script} {old = old} {new = new} Memory to (inl c) =
-    let F : Status → Type 0 = λ s. Ran s tail first script old new in subst F (sym c.0) (record { means = record { to = to; written = c.1 } })
+    let F : Status → Type 0 = λ s. RanMeans s tail first script old new in subst F (sym c.0) (record { to = to; written = c.1 })
 
 pub closes : {result status : Status} {tail : Tail} {first : ℕ} {script line : List ℕ} {old : State} {machine : MachineState} {sink sink' : SinkState} → ComesTo status tail first script line old (state_of machine sink)
     → Closed result status line sink sink' → Ran result tail first script old (state_of machine sink')
-closes {status = status} {line = line} {sink = sink} comes c = closes_by status (record { line = line; sink = sink; comes = comes }) c.means
-
--- a run that is done has no last line
-pub ran_done : {tail : Tail} {first : ℕ} {script : List ℕ} {old new : State} → RanGiven Done tail first script [] old new → Ran Done tail first script old new
-ran_done {new = new} r = record { means = record { to = record { line = []; sink = new.sink; comes = r }; written = added_none new.sink } }
+closes {status = status} {line = line} {sink = sink} comes c = record { means = closes_by status (record { line = line; sink = sink; comes = comes }) c.means; passed = c.passed }
 
 -- ---- behind the lines before
 
@@ -118,19 +115,20 @@ to_behind cut p r = record { to = last_behind cut p r.to; written = r.written }
 cut_behind : {tail : Tail} {old mid new : State} {first number : ℕ} {script a rest : List ℕ} → script ≡ a ++ rest → CarriedOut old mid first a number
     → RanCut tail number rest mid new → RanCut tail first script old new
 cut_behind cut p (in_reply s) = in_reply (stopped_behind cut p s)
+cut_behind cut p (behind r still off) = behind (reached_behind cut p r) still off
 cut_behind cut p (in_last status to off) = in_last status (last_behind cut p to) off
 
 -- a run of the rest, behind the lines before
 pub ran_behind : (status : Status) {tail : Tail} {old mid new : State} {first number : ℕ} {script a rest : List ℕ} → script ≡ a ++ rest → CarriedOut old mid first a number
     → Ran status tail number rest mid new → Ran status tail first script old new
-ran_behind Done cut p r = record { means = to_behind cut p r.means }
+ran_behind Done cut p r = record { means = to_behind cut p r.means; passed = r.passed }
 ran_behind Usage cut p r = absurd r.means
-ran_behind Script cut p r = record { means = to_behind cut p r.means }
+ran_behind Script cut p r = record { means = to_behind cut p r.means; passed = r.passed }
 ran_behind Directory cut p r = absurd r.means
-ran_behind HostFault cut p r = record { means = to_behind cut p r.means }
-ran_behind ReadFault cut p r = record { means = to_behind cut p r.means }
-ran_behind WriteFault cut p r = record { means = cut_behind cut p r.means }
-ran_behind Memory cut p r = record { means = to_behind cut p r.means }
+ran_behind HostFault cut p r = record { means = to_behind cut p r.means; passed = r.passed }
+ran_behind ReadFault cut p r = record { means = to_behind cut p r.means; passed = r.passed }
+ran_behind WriteFault cut p r = record { means = cut_behind cut p r.means; passed = r.passed }
+ran_behind Memory cut p r = record { means = to_behind cut p r.means; passed = r.passed }
 
 -- ---- runs that the script, the host or want of memory ended
 
@@ -188,7 +186,12 @@ pub ran_starved : {result : Status} {tail : Tail} {first : ℕ} {script : List �
 ran_starved s c = closes (record { stopped = s; last = refl }) c
 
 pub ran_cut : {tail : Tail} {first : ℕ} {script : List ℕ} {old new : State} → StoppedBy cut_step tail first script old new → Ran WriteFault tail first script old new
-ran_cut s = record { means = in_reply s }
+ran_cut s = record { means = in_reply s; passed = inl refl }
+
+-- the sink failed behind the replies of the lines before
+pub ran_unpassed : {tail : Tail} {first number : ℕ} {script a : List ℕ} {old : State} {machine : MachineState} {sink sink' : SinkState} (rest : List ℕ) → script ≡ a ++ rest → CarriedOut old (state_of machine sink) first a number → CutOff [] sink sink'
+    → Ran WriteFault tail first script old (state_of machine sink')
+ran_unpassed rest cut p off = record { means = behind (standing rest cut p) refl off; passed = inl refl }
 
 -- a run of the bytes that were taken, up to the limit of a script
 pub runs_by : (tail : Tail) {result : Status} {script : List ℕ} (bytes : List ℕ) {old new : State} → script ≡ take SCRIPT_LIMIT bytes → Ran result tail 1 script old new → RunsBy tail result bytes old new
@@ -196,3 +199,22 @@ runs_by End {result = result} bytes {old = old} {new = new} is r = let R : List 
 runs_by fault_tail {result = result} bytes {old = old} {new = new} is r = let R : List ℕ → Type 0 = λ s. Ran result fault_tail 1 s old new in subst R is r
 runs_by Over {result = result} bytes {old = old} {new = new} is r = let R : List ℕ → Type 0 = λ s. Ran result Over 1 s old new in subst R is r
 runs_by More {result = result} bytes {old = old} {new = new} is r = let R : List ℕ → Type 0 = λ s. Ran result More 1 s old new in inl (subst R is r)
+
+-- lines that are carried out, and whose replies are passed on
+pub rest_flushed : {T E : Type 0} {x : T} {old : State} {machine : MachineState} {sink sink' : SinkState} {first at number : ℕ} {script : List ℕ} → IsRest old (state_of machine sink) first script at number → Writes {E = E} (Ok x) [] sink sink'
+    → IsRest old (state_of machine sink') first script at number
+rest_flushed h f = record {
+  within = h.within;
+  numbered = h.numbered;
+  one = h.one;
+  lines = record {
+    out = h.lines.out;
+    lines = h.lines.lines;
+    replies = added_flushed h.lines.replies f;
+    breaks = h.lines.breaks;
+    spoilt = h.lines.spoilt;
+    steps = h.lines.steps;
+    memory = h.lines.memory;
+    goes_on = h.lines.goes_on;
+  };
+}

@@ -17,7 +17,7 @@ use Rattle.zn_lines.specs.Memory.{takes_itself}
 use Rattle.zn_lines.specs.Table.{Table}
 use Rattle.zn_lines.specs.Transcript.{Transcript, transcript_from, pieces, transcript_at, transcript, transcript_of, tail_of, stop, IsDecided, last_line, whole_text}
 use Rattle.zn_run.specs.Endings.{out_of_memory}
-use Rattle.zn_run.specs.Headline.{Closes, RanGiven, ToLast, RanTo, RanCut, in_reply, in_last, Unrun, Ran, RunsBy}
+use Rattle.zn_run.specs.Headline.{Closes, RanGiven, ToLast, RanTo, RanCut, in_reply, behind, in_last, Unrun, Ran, RunsBy}
 use Rattle.zn_run.specs.Laws.{WholeLinesAlone, IsKept, StarvedIn, LacksMemory, RunCauses, StatusesHaveCauses, IsFaultless, FaultlessRuns, DoneRuns, RanAll, WholeRuns, EndsNear, UnreadRest}
 use Rattle.zn_run.specs.Progress.{IsNext, Reached}
 use Rattle.zn_run.specs.Script.{Taken, IsNear}
@@ -58,6 +58,8 @@ kept_to Memory to = ap (λ (s : SinkState). s.faults) to.comes.stopped.stepped.m
 cut_risen : {tail : Tail} {first : ℕ} {script : List ℕ} {old new : State} → RanCut tail first script old new → HasRisen old.sink.faults new.sink.faults
 cut_risen {new = new} (in_reply s) =
     let R : ℕ → Type 0 = λ k. HasRisen k new.sink.faults in subst R s.reached.lines.replies.kept s.stepped.means.reply.risen
+cut_risen {new = new} (behind r still cut) =
+    let R : ℕ → Type 0 = λ k. HasRisen k new.sink.faults in subst R r.lines.replies.kept cut.risen
 cut_risen {new = new} (in_last status to cut) =
     let R : ℕ → Type 0 = λ k. HasRisen k new.sink.faults in subst R (kept_to status to) cut.risen
 

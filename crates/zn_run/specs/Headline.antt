@@ -1,5 +1,5 @@
 -- What a whole run did, by its status. (own)
-use Rattle.std.specs.Prelude.{◌≡◌, ◌⊎◌, ℕ, true, List, [], take, Some}
+use Rattle.std.specs.Prelude.{◌≡◌, ◌⊎◌, ℕ, true, false, List, [], take, Some}
 use Rattle.zn_base.specs.States.{SinkState}
 use Rattle.zn_lines.specs.declared.limits.TheConstants.{SCRIPT_LIMIT}
 use Rattle.zn_lines.specs.declared.runs.Tail.{Tail}
@@ -22,9 +22,14 @@ abbrev pub Closes : Status → Status → List ℕ → SinkState → SinkState �
 Closes result status line old new =
     ((result ≡ status) × Added line old new) ⊎ ((result ≡ WriteFault) × CutOff line old new)
 
--- the same, as one clause of the functions that end a run
+-- unless the sink failed, it holds nothing back
+abbrev pub IsPassed : Status → SinkState → Type 0
+IsPassed result sink = (result ≡ WriteFault) ⊎ (sink.held_back ≡ false)
+
+-- The same, and no byte is left in the sink.
 pub record Closed (result status : Status) (line : List ℕ) (old new : SinkState) : Type 0 where
   pub means : Closes result status line old new
+  pub passed : IsPassed result new
 
 -- ---- how a run comes to its last line
 
@@ -88,9 +93,11 @@ pub record RanTo (status : Status) (tail : Tail) (first : ℕ) (script : List �
   pub to : ToLast status tail first script old new
   pub written : Added to.line to.sink new.sink
 
--- the sink failed in the reply of a line, or in the last line
+-- The sink failed in the reply of a line, or behind replies that it held back, or in the last line.
 pub data RanCut (tail : Tail) (first : ℕ) (script : List ℕ) (old new : State) : Type 0 where
   in_reply : StoppedBy cut_step tail first script old new → RanCut tail first script old new
+  behind : (reached : Reached old first script) → new.machine ≡ reached.state.machine → CutOff [] reached.state.sink new.sink
+      → RanCut tail first script old new
   in_last : (status : Status) (to : ToLast status tail first script old new) → CutOff to.line to.sink new.sink
       → RanCut tail first script old new
 
@@ -105,9 +112,10 @@ RanMeans ReadFault tail first script old new = RanTo ReadFault tail first script
 RanMeans WriteFault tail first script old new = RanCut tail first script old new
 RanMeans Memory tail first script old new = RanTo Memory tail first script old new
 
--- the run did what its status says
+-- the run did what its status says, and no reply is left in the sink
 pub record Ran (status : Status) (tail : Tail) (first : ℕ) (script : List ℕ) (old new : State) : Type 0 where
   pub means : RanMeans status tail first script old new
+  pub passed : IsPassed status new.sink
 
 -- ---- the whole run
 

@@ -1,6 +1,6 @@
 // The last line of a run.
-ghost use Rattle.std.specs.Prelude.{◌≡◌, is_ok, if◌then◌else◌};
-ghost use Rattle.zn_base.specs.States.{Writes};
+ghost use Rattle.std.specs.Prelude.{ℕ, List, []};
+ghost use Rattle.zn_base.specs.States.{SinkState, Writes};
 ghost use Rattle.zn_lines.specs.Transcript.{last_line};
 ghost use Rattle.zn_run.specs.Endings.{out_of_memory, host_fault};
 ghost use Rattle.zn_run.specs.Headline.{Closed};
@@ -45,11 +45,16 @@ fn write_last_line<K: Sink>(sink: &mut K, ending: Ending) -> Result<(), WriteFau
     }
 }
 
-/// The status of a run whose last line was to be written.
-fn status_after(written: Result<(), WriteFault>, status: Status) -> Status
-    ensures { result ≡ (if is_ok written then status else Status.WriteFault) }
+/// Passes on what the sink holds back, once the last line of a run was to be written, and answers the run's status.
+fn pass_on<K: Sink>(sink: &mut K, written: Result<(), WriteFault>, status: Status) -> Status
+    ensures { (line : List ℕ) (before : SinkState) → Writes written line before (K.state sink.old)
+        → Closed result status line before (K.state sink.new) }
 {
     match written {
+        Ok(()) => {}
+        Err(_) => return Status::WriteFault,
+    }
+    match sink.flush() {
         Ok(()) => status,
         Err(_) => Status::WriteFault,
     }
@@ -59,7 +64,15 @@ fn status_after(written: Result<(), WriteFault>, status: Status) -> Status
 pub fn end_with<K: Sink>(sink: &mut K, line: &[u8], status: Status) -> Status
     ensures { Closed result status line.now (K.state sink.old) (K.state sink.new) }
 {
-    status_after(write_all(sink, line), status)
+    let written = write_all(sink, line);
+    pass_on(sink, written, status)
+}
+
+/// Ends a run that has no last line.
+pub fn end_done<K: Sink>(sink: &mut K) -> Status
+    ensures { Closed result Status.Done [] (K.state sink.old) (K.state sink.new) }
+{
+    pass_on(sink, Ok(()), Status::Done)
 }
 
 /// Ends a run for want of memory.
@@ -73,14 +86,16 @@ pub fn end_starved<K: Sink>(sink: &mut K) -> Status
 pub fn end_by_script<K: Sink>(sink: &mut K, ending: Ending) -> Status
     ensures { Closed result Status.Script (last_line ending) (K.state sink.old) (K.state sink.new) }
 {
-    status_after(write_last_line(sink, ending), Status::Script)
+    let written = write_last_line(sink, ending);
+    pass_on(sink, written, Status::Script)
 }
 
 /// Ends a run whose script could not be read to its end.
 pub fn end_unread<K: Sink>(sink: &mut K) -> Status
     ensures { Closed result Status.ReadFault (last_line Ending.ReadFailed) (K.state sink.old) (K.state sink.new) }
 {
-    status_after(write_last_line(sink, Ending::ReadFailed), Status::ReadFault)
+    let written = write_last_line(sink, Ending::ReadFailed);
+    pass_on(sink, written, Status::ReadFault)
 }
 
 /// Ends a run in whose line of this number the host failed.
@@ -95,5 +110,5 @@ pub fn end_broken<K: Sink>(sink: &mut K, number: u64) -> Status
             Part::Text(b"\n"),
         ],
     );
-    status_after(written, Status::HostFault)
+    pass_on(sink, written, Status::HostFault)
 }

@@ -7,7 +7,7 @@ ghost use Rattle.zn_run.specs.Progress.{IsKeptRest};
 ghost use Rattle.zn_run.specs.Script.{IsNear};
 ghost use Rattle.zn_run.specs.States.{run_of, state_of};
 
-use crate::ends::{end_broken, end_by_script, end_starved, end_unread};
+use crate::ends::{end_broken, end_by_script, end_done, end_starved, end_unread};
 use crate::lines::{Halt, carry_out};
 use crate::machine::{Machine, Step};
 use crate::script::{BUFFER, read_piece};
@@ -32,7 +32,7 @@ fn run_last_line<M: Machine, K: Sink>(
         (state_of (M.state machine.old) (K.state sink.old)) (state_of (M.state machine.new) (K.state sink.new)) }
 {
     match machine.step(line, sink) {
-        Step::Done => Status::Done,
+        Step::Done => end_done(sink),
         Step::BadLine(column) => end_by_script(sink, Ending::BadLine(number, column)),
         Step::Broken => end_broken(sink, number),
         Step::SinkFault => Status::WriteFault,
@@ -60,7 +60,7 @@ fn run_rest<M: Machine, K: Sink>(
         return end_by_script(sink, Ending::LineTooLong(number));
     }
     match tail {
-        Tail::End if rest.is_empty() => Status::Done,
+        Tail::End if rest.is_empty() => end_done(sink),
         Tail::End => run_last_line(machine, rest, number, sink),
         Tail::Fault => end_unread(sink),
         Tail::Over => end_by_script(sink, Ending::ScriptTooLong(number)),
@@ -93,8 +93,8 @@ fn run_last<M: Machine, K: Sink>(
     }
 }
 
-/// Carries out the lines that a newline ends, from the line with this number on, where more may follow. Answers where
-/// the rest begins, which may yet become a line, with its number; or how the run ended.
+/// Carries out the lines that a newline ends, from the line with this number on, where more may follow, and passes on
+/// their replies. Answers where the rest begins, which may yet become a line, with its number; or how the run ended.
 fn run_lines<M: Machine, K: Sink>(
     machine: &mut M,
     bytes: &[u8],
@@ -116,7 +116,10 @@ fn run_lines<M: Machine, K: Sink>(
             if bytes.len() - at > LINE_LIMIT {
                 return Err(end_by_script(sink, Ending::LineTooLong(number)));
             }
-            Ok((at, number))
+            match sink.flush() {
+                Ok(()) => Ok((at, number)),
+                Err(_) => Err(Status::WriteFault),
+            }
         }
         Halt::Ended(ending) => Err(end_by_script(sink, ending)),
         Halt::Broken(number) => Err(end_broken(sink, number)),
@@ -126,7 +129,7 @@ fn run_lines<M: Machine, K: Sink>(
 }
 
 /// Carries out a script piece by piece. The buffer keeps what no newline has ended. The next piece is read only when
-/// all lines in it are carried out.
+/// all lines in it are carried out and no reply is held back: who types the lines sees each reply before the next one.
 fn run_pieces<M: Machine, S: Source, K: Sink>(
     machine: &mut M,
     source: &mut S,

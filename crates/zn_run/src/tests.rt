@@ -1,4 +1,4 @@
-ghost use Rattle.std.specs.Prelude.{[], true, false};
+ghost use Rattle.std.specs.Prelude.{[], true, false, None};
 ghost use Rattle.zn_lines.specs.Table.{fresh_table};
 
 use crate::{Machine, Status, Step, run};
@@ -6,7 +6,8 @@ use std::alloc::Global;
 use std::process::Abort;
 use std::test::Fail;
 use zn_base::memory::{MemSink, MemSource};
-use zn_base::{Sink, Source, write_all};
+use zn_base::{ReadFault, Sink, Source, WriteFault, write_all};
+use zn_lines::SCRIPT_LIMIT;
 
 /// A machine over nothing, which knows a few lines: it aborts at any other.
 #[derive(Drop)]
@@ -349,6 +350,93 @@ fn a_long_script_is_carried_out(rt: HostRuntime) -> Result<(), Fail> {
         Status::Script,
         "line-too-long 300\n",
     )?;
+    Ok(())
+}
+
+/// A source of comments, each as long as what is read at once, until so many bytes are given.
+#[derive(Drop)]
+struct Generated {
+    left: usize,
+}
+
+impl Source for Generated {
+    ghost state = { λ s. record { left = None; faults = 0 } };
+
+    fn read(&mut self, buf: &mut [u8]) -> Result<usize, ReadFault> {
+        let count = buf.len().min(self.left);
+        buf[..count].fill(b'#');
+        if let Some(last) = buf[..count].last_mut() {
+            *last = b'\n';
+        }
+        self.left -= count;
+        Ok(count)
+    }
+
+    fn faults(&self) -> u64 {
+        0
+    }
+}
+
+#[test]
+fn a_script_may_be_as_long_as_its_limit(rt: HostRuntime) -> Result<(), Fail> {
+    for (len, status, written) in [
+        (SCRIPT_LIMIT, Status::Done, ""),
+        (SCRIPT_LIMIT + 1, Status::Script, "script-too-long 65537\n"),
+    ] {
+        let mut source = Generated { left: len };
+        let mut sink = MemSink::new(rt.alloc(), 100, Vec::new(rt.alloc()))?;
+        let mut machine = Probe {
+            rt,
+            is_over: false,
+            breaks: 0,
+            steps: 0,
+        };
+        let got = run(rt.alloc(), &mut machine, &mut source, &mut sink);
+        assert_eq!(rt; got, status, "{len}");
+        assert_eq!(rt; sink.bytes(), written.as_bytes());
+    }
+    Ok(())
+}
+
+/// A sink that holds back what is written and can't pass it on.
+#[derive(Drop)]
+struct Stuck {
+    faults: u64,
+}
+
+impl Sink for Stuck {
+    ghost state = { λ s. record { written = None; held_back = true; faults = s.faults } };
+
+    fn write(&mut self, piece: &[u8]) -> Result<usize, WriteFault> {
+        Ok(piece.len())
+    }
+
+    fn flush(&mut self) -> Result<(), WriteFault> {
+        self.faults = self.faults.saturating_add(1);
+        Err(WriteFault)
+    }
+
+    fn faults(&self) -> u64 {
+        self.faults
+    }
+}
+
+// The first reply isn't passed on, so no line of the next piece is carried out.
+#[test]
+fn replies_are_passed_on_before_more_is_read(rt: HostRuntime) -> Result<(), Fail> {
+    let alloc = rt.alloc();
+    let script = comments(alloc, 1, 65527, b"close 0\nsize 0\n")?;
+    let mut source = MemSource::new(script, Vec::new(alloc));
+    let mut sink = Stuck { faults: 0 };
+    let mut machine = Probe {
+        rt,
+        is_over: false,
+        breaks: 0,
+        steps: 0,
+    };
+    let got = run(alloc, &mut machine, &mut source, &mut sink);
+    assert_eq!(rt; got, Status::WriteFault);
+    assert_eq!(rt; (machine.steps, machine.breaks), (2, 0));
     Ok(())
 }
 

@@ -2,7 +2,7 @@ use Rattle.zn_run.proofs.LastLaws.{last_done, last_bad, last_broken, last_cut, l
 use Rattle.zn_run.proofs.runs.run_last_line.Goals as goal
 
 pub returns-in-Done : goal.returns-in-Done
-returns-in-Done g c = last_done c.args.number c.requires.one c.requires.some c.requires.fits c.in-Done.ensures
+returns-in-Done g c = last_done c.args.number c.requires.one c.requires.some c.requires.fits c.in-Done.ensures c.end_done.ensures
 
 pub returns-in-BadLine : goal.returns-in-BadLine
 returns-in-BadLine g c = last_bad c.args.number c.requires.goes_on c.requires.one c.requires.some c.requires.fits c.in-BadLine.ensures c.end_by_script.ensures

@@ -11,7 +11,7 @@ returns-then-rest-gt-LINE_LIMIT g c =
     (λ givens. long_is givens c.args.tail (g.M.Machine.state c.args.machine.now).table c.args.number c.args.rest.now c.requires.one (omega arith)) c.end_by_script.ensures
 
 pub returns-in-End : goal.returns-in-End
-returns-in-End g c = none_left _ c.args.number c.args.rest.now c.requires.one (omega arith) c.in-End.is (grind (arith, common_steps))
+returns-in-End g c = none_left c.args.number c.args.rest.now c.requires.one (omega arith) c.in-End.is (grind (arith, common_steps)) c.end_done.ensures
 
 pub returns-in-Fault : goal.returns-in-Fault
 returns-in-Fault g c =
