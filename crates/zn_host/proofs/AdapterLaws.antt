@@ -1,8 +1,10 @@
 -- Laws of what a sink over a writer has taken.
-use Rattle.std.proofs.Common.{ℕ, List, [], ◌++◌, take, Option, Some, None, refl, sym, ◌∙◌, inl, inr, append_assoc, Ok}
+use Rattle.std.proofs.Common.{◌≡◌, ℕ, List, [], ◌++◌, take, Option, Some, None, refl, sym, ◌∙◌, inl, inr, append_assoc, Ok}
 use Rattle.std.proofs.lemmas.List.{append-nil}
 use Rattle.std.specs.Io.KnownBytes.{Appends}
 use Rattle.zn_host.specs.Adapters.{EndsLine, Takes}
+use Rattle.zn_host.specs.declared.adapters.Buffering.{Buffering}
+use Rattle.zn_host.specs.declared.adapters.Buffering.TheVariants.{Line}
 use Rattle.zn_base.specs.Told.{told_and}
 
 -- gathered bytes are behind those of the writer
@@ -16,18 +18,18 @@ sent_appends None new gathered bytes sent = tt
 sent_appends (Some xs) None gathered bytes sent = absurd sent
 sent_appends (Some xs) (Some ys) gathered bytes sent = append-nil ys ∙ sent ∙ sym (append_assoc xs gathered bytes)
 
-pub takes_gathered : {E : Type 0} (told : Option (List ℕ)) (gathered piece : List ℕ) (n : ℕ) → (EndsLine (take n piece) → ⊥) → Takes {E = E} told told gathered (gathered ++ take n piece) (Ok n) piece
-takes_gathered told gathered piece n open_line = record {
+pub takes_gathered : {E : Type 0} (by : Buffering) (told : Option (List ℕ)) (gathered piece : List ℕ) (n : ℕ) → ((by ≡ Line) × EndsLine (take n piece) → ⊥) → Takes {E = E} by told told gathered (gathered ++ take n piece) (Ok n) piece
+takes_gathered by told gathered piece n open_line = record {
   bytes = gathered_appends told gathered (take n piece);
   held = inr refl;
-  sent = λ ends. absurd (open_line ends);
+  sent = λ is ends. absurd (open_line (is, ends));
   lost = tt;
 }
 
-pub takes_sent : {E : Type 0} (old new : Option (List ℕ)) (gathered piece : List ℕ) (n : ℕ) → Appends old new (gathered ++ take n piece) → Takes {E = E} old new gathered [] (Ok n) piece
-takes_sent old new gathered piece n sent = record {
+pub takes_sent : {E : Type 0} (by : Buffering) (old new : Option (List ℕ)) (gathered piece : List ℕ) (n : ℕ) → Appends old new (gathered ++ take n piece) → Takes {E = E} by old new gathered [] (Ok n) piece
+takes_sent by old new gathered piece n sent = record {
   bytes = sent_appends old new gathered (take n piece) sent;
   held = inl refl;
-  sent = λ _. refl;
+  sent = λ _ _. refl;
   lost = tt;
 }

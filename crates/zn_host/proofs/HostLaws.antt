@@ -1,12 +1,12 @@
 -- Calls on a directory that tells no content.
-use Rattle.std.proofs.Common.{◌≡◌, ℕ, ◌≤◌, ◌++◌, [], false, Result, Ok, Err, refl, sym, subst, arith}
+use Rattle.std.proofs.Common.{◌≡◌, ℕ, ◌≤◌, [], false, Result, Ok, Err, refl, arith}
 use Rattle.std.specs.Prelude.{IsErrOf}
 use Rattle.zn_base.specs.Causes.{one_more, Rose}
 use Rattle.zn_stand.specs.Calls.{Call}
 use Rattle.zn_files.specs.declared.error.FileError.{FileError}
 use Rattle.zn_files.specs.declared.error.FileError.TheVariants.{Fault, Missing, Exists, Memory}
 use Rattle.zn_files.specs.Causes.{FilesCause}
-use Rattle.zn_files.specs.States.{FilesState, Called}
+use Rattle.zn_files.specs.States.{Called}
 use Rattle.zn_host.specs.Host.{HostState, untold_files, counted}
 
 rose : (old new : ℕ) → new ≡ one_more old → Rose old new

@@ -1,11 +1,11 @@
 // A source and a sink over a reader and a writer of std. They tell no bytes of their own.
 ghost use Rattle.std.specs.Prelude.{◌≡◌, ◌↔◌, ◌<◌, ◌≤◌, ◌+◌, ◌-◌, min};
-ghost use Rattle.std.specs.Prelude.{[], ◌++◌, take, IfOk, OnOk, IsTrue, length, vec_len};
+ghost use Rattle.std.specs.Prelude.{[], ◌++◌, take, false, IsOk, IfOk, OnOk, IsTrue, length, vec_len};
 ghost use Rattle.std.specs.Io.{ReadsAtMost, WritesAtMost};
 ghost use Rattle.std.specs.Io.KnownBytes.{Appends, ReadConsumes};
 ghost use Rattle.zn_host.specs.Adapters.{EndsLine, Takes, untold_source, untold_sink};
 ghost use Rattle.zn_base.specs.Causes.{HasCause};
-ghost use Rattle.zn_base.specs.States.{WasRead, WasWritten};
+ghost use Rattle.zn_base.specs.States.{WasRead, WasWritten, Writes};
 
 use std::alloc::{AllocError, Global};
 use std::io::{ErrorKind, Read, Write};
@@ -78,11 +78,21 @@ impl<R: Read> Source for ReaderSource<R> {
 /// How many bytes a `WriterSink` gathers.
 const ROOM: usize = 65536;
 
-/// A sink over a writer. It gathers bytes, and writes them out once a piece ends in a newline or its buffer is
-/// full, so that a reply that fits is one write. A write that fails loses what was gathered.
+/// When a `WriterSink` writes out what it has gathered, unless its buffer is full or it is flushed.
+#[derive(Clone, Copy, Debug, PartialEq, Eq)]
+pub enum Buffering {
+    /// Once a piece ends in a newline: a reply that fits is one write, made before the next line may begin.
+    Line,
+    /// Not before: many replies are one write.
+    Block,
+}
+
+/// A sink over a writer. It gathers bytes, and writes them out once its buffer is full or it is flushed, and where lines
+/// are written out at once, also behind a newline. A write that fails loses what was gathered.
 #[derive(Drop)]
 pub struct WriterSink<W> {
     writer: W,
+    buffering: Buffering,
     buffer: Vec<u8>,
     len: usize,
     faults: u64,
@@ -94,33 +104,28 @@ impl<W> Model for WriterSink<W> {
 
     ghost Value = { WriterState W };
 
-    ghost view = { λ s. record { writer = s.writer; gathered = take s.len s.buffer.items; faults = s.faults } };
+    ghost view = { λ s. record {
+      writer = s.writer;
+      buffering = s.buffering;
+      gathered = take s.len s.buffer.items;
+      faults = s.faults;
+    } };
 
     ghost invariant = { λ s. s.len < vec_len s.buffer };
 }
 
 impl<W: Write + Drop> WriterSink<W> {
-    pub fn new(alloc: Global, writer: W) -> Result<Self, AllocError>
-        ensures { IfOk result (λ s. s ≡ record { writer = writer; gathered = []; faults = 0 }) }
+    pub fn new(alloc: Global, writer: W, buffering: Buffering) -> Result<Self, AllocError>
+        ensures { IfOk result (λ s.
+            s ≡ record { writer = writer; buffering = buffering; gathered = []; faults = 0 }) }
     {
         Ok(WriterSink {
             writer,
+            buffering,
             buffer: vec![in alloc; 0; ROOM]?,
             len: 0,
             faults: 0,
         })
-    }
-
-    /// Writes out what is gathered.
-    pub fn flush(&mut self) -> Result<(), WriteFault>
-        ensures cause { HasCause self.old.faults self.new.faults result }
-        ensures sent { self.new.gathered ≡ [] }
-        ensures bytes { OnOk result
-            (Appends (W.contents self.old.writer) (W.contents self.new.writer) self.old.gathered) }
-    {
-        let end = self.len;
-        self.len = 0;
-        write_out(&mut self.writer, &self.buffer[..end], &mut self.faults)
     }
 }
 
@@ -154,6 +159,16 @@ fn ends_line(bytes: &[u8]) -> bool
     bytes.last() == Some(&b'\n')
 }
 
+/// Whether bytes are written out at once, be there room or not.
+fn is_due(buffering: Buffering, bytes: &[u8]) -> bool
+    ensures { IsTrue result ↔ ((buffering ≡ Buffering.Line) × EndsLine bytes.now) }
+{
+    match buffering {
+        Buffering::Line => ends_line(bytes),
+        Buffering::Block => false,
+    }
+}
+
 impl<W: Write> Sink for WriterSink<W> {
     ghost state = { untold_sink };
 
@@ -161,18 +176,33 @@ impl<W: Write> Sink for WriterSink<W> {
         ensures bound { WritesAtMost result piece.now }
         ensures some { IfOk result (λ n. 0 < length piece.now → 0 < n) }
         ensures done { WasWritten result piece.now (untold_sink self.old) (untold_sink self.new) }
-        ensures takes { Takes (W.contents self.old.writer) (W.contents self.new.writer)
+        ensures kept { self.new.buffering ≡ self.old.buffering }
+        ensures takes { Takes self.old.buffering (W.contents self.old.writer) (W.contents self.new.writer)
             self.old.gathered self.new.gathered result piece.now }
     {
         let count = put_behind(&mut self.buffer, self.len, piece);
         let end = self.len + count;
-        if end < self.buffer.len() && !ends_line(&piece[..count]) {
+        if end < self.buffer.len() && !is_due(self.buffering, &piece[..count]) {
             self.len = end;
             return Ok(count);
         }
         self.len = 0;
         write_out(&mut self.writer, &self.buffer[..end], &mut self.faults)?;
         Ok(count)
+    }
+
+    /// Writes out what is gathered.
+    fn flush(&mut self) -> Result<(), WriteFault>
+        ensures done { Writes result [] (untold_sink self.old) (untold_sink self.new) }
+        ensures passed { IsOk result → (untold_sink self.new).held_back ≡ false }
+        ensures kept { self.new.buffering ≡ self.old.buffering }
+        ensures sent { self.new.gathered ≡ [] }
+        ensures bytes { OnOk result
+            (Appends (W.contents self.old.writer) (W.contents self.new.writer) self.old.gathered) }
+    {
+        let end = self.len;
+        self.len = 0;
+        write_out(&mut self.writer, &self.buffer[..end], &mut self.faults)
     }
 
     fn faults(&self) -> u64 {

@@ -10,5 +10,5 @@ mod listing;
 mod tests;
 mod transfer;
 
-pub use adapters::{ReaderSource, WriterSink};
+pub use adapters::{Buffering, ReaderSource, WriterSink};
 pub use host::HostFiles;

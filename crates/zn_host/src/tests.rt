@@ -1,7 +1,7 @@
 ghost use Rattle.std.specs.Prelude.{◌≤◌, IfOk};
 
 use crate::transfer::{read_whole, write_whole};
-use crate::{HostFiles, ReaderSource, WriterSink};
+use crate::{Buffering, HostFiles, ReaderSource, WriterSink};
 use std::cell::Cell;
 use std::io::{ErrorKind, Read, Write};
 use std::os::unix::fs::FileExt;
@@ -96,7 +96,7 @@ fn gathers_a_reply(rt: HostRuntime) -> Result<(), Fail> {
         written: Vec::new(rt.alloc()),
         writes: 0,
     };
-    let mut sink = WriterSink::new(rt.alloc(), &mut stream)?;
+    let mut sink = WriterSink::new(rt.alloc(), &mut stream, Buffering::Line)?;
     let parts = [Part::Text(b"ok "), Part::Number(12), Part::Text(b"\n")];
     for is_written in [true, false, true] {
         assert_eq!(rt; write_parts(&mut sink, &parts).is_ok(), is_written);
@@ -111,6 +111,27 @@ fn gathers_a_reply(rt: HostRuntime) -> Result<(), Fail> {
     assert_eq!(rt; stream.writes, 6);
     assert_eq!(rt; stream.written.len(), 12 + long.len());
     assert!(rt; stream.written.as_slice().starts_with(b"ok 12\nok 12\nxx"));
+    Ok(())
+}
+
+// Replies are gathered until a flush, and what is left of a full buffer too.
+#[test]
+fn replies_are_gathered_in_blocks(rt: HostRuntime) -> Result<(), Fail> {
+    let steps = [Step::Takes(usize::MAX); 4];
+    let mut stream = Stream {
+        steps: &steps,
+        written: Vec::new(rt.alloc()),
+        writes: 0,
+    };
+    let mut sink = WriterSink::new(rt.alloc(), &mut stream, Buffering::Block)?;
+    for _ in 0..30_000 {
+        assert!(rt; write_all(&mut sink, b"ok\n").is_ok());
+    }
+    assert!(rt; sink.flush().is_ok());
+    assert!(rt; sink.flush().is_ok());
+    drop(sink);
+    assert_eq!(rt; stream.writes, 2);
+    assert_eq!(rt; stream.written.len(), 90_000);
     Ok(())
 }
 

@@ -13,7 +13,7 @@ use std::random::RandomSource;
 use std::{env, io};
 use zn_cli::zonefs_main;
 use zn_files::{Files, MemFiles};
-use zn_host::{HostFiles, ReaderSource, WriterSink};
+use zn_host::{Buffering, HostFiles, ReaderSource, WriterSink};
 use zn_run::Status;
 use zn_words::dir_of;
 
@@ -47,8 +47,13 @@ fn entropy<R: RandomSource>(rt: &R) -> [u8; 16] {
 }
 
 /// Does what the words ask for, with these files. Nothing but the command calls them.
-fn carry_out<F: Files + Drop>(rt: HostRuntime, words: &[String], files: F) -> Status {
-    let Ok(mut sink) = WriterSink::new(rt.alloc(), rt.stdout()) else {
+fn carry_out<F: Files + Drop>(
+    rt: HostRuntime,
+    words: &[String],
+    files: F,
+    buffering: Buffering,
+) -> Status {
+    let Ok(mut sink) = WriterSink::new(rt.alloc(), rt.stdout(), buffering) else {
         return starved(&mut rt.stdout());
     };
     let mut source = ReaderSource::new(rt.stdin());
@@ -64,7 +69,8 @@ fn carry_out<F: Files + Drop>(rt: HostRuntime, words: &[String], files: F) -> St
 }
 
 /// Does what the command line asks for, with the files of the directory that it names. A word that isn't UTF-8 fits no
-/// command, and neither do no words.
+/// command, and neither do no words. On a directory each reply is written before the next line may begin, so that what
+/// was written tells which line a stop of the host fell into.
 fn run(rt: HostRuntime) -> Status {
     let alloc = rt.alloc();
     let words = match words(rt) {
@@ -73,8 +79,10 @@ fn run(rt: HostRuntime) -> Status {
         Err(_) => Vec::new(alloc),
     };
     match dir_of(alloc, &words) {
-        Ok(Some(path)) => carry_out(rt, &words, HostFiles::new(rt, alloc, path)),
-        Ok(None) => carry_out(rt, &words, MemFiles::new(alloc)),
+        Ok(Some(path)) => {
+            carry_out(rt, &words, HostFiles::new(rt, alloc, path), Buffering::Line)
+        }
+        Ok(None) => carry_out(rt, &words, MemFiles::new(alloc), Buffering::Block),
         Err(_) => starved(&mut rt.stdout()),
     }
 }
