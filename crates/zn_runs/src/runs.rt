@@ -5,8 +5,8 @@ ghost use Rattle.std.specs.List.{prefix_len};
 ghost use Rattle.zn_base.specs.States.{Writes};
 ghost use Rattle.zn_base.specs.Runs.{run_text, data_text};
 
-use zn_base::{Part, Sink, WriteFault, write_parts};
 use std::simd::prelude::*;
+use zn_base::{Part, Sink, WriteFault, write_parts};
 
 const LANES: usize = 32;
 
