@@ -5,4 +5,4 @@ mod runs;
 #[cfg(test)]
 mod tests;
 
-pub use runs::write_runs;
+pub use runs::{MOST_RUN, write_runs};

@@ -1,12 +1,18 @@
 // Bytes that are written as runs of equal bytes.
 ghost use Rattle.std.specs.Prelude.{◌≡◌, ◌≢◌, ◌==◌, ℕ, ◌+◌, ◌<◌, ◌≤◌};
-ghost use Rattle.std.specs.Prelude.{◌++◌, [], length, slice_index, codes, if◌then◌else◌};
+ghost use Rattle.std.specs.Prelude.{◌++◌, [], length, slice_index, take, codes, if◌then◌else◌};
+ghost use Rattle.std.specs.Fmt.{decimal};
 ghost use Rattle.std.specs.List.{prefix_len};
 ghost use Rattle.zn_base.specs.States.{Writes};
-ghost use Rattle.zn_base.specs.Runs.{run_text, data_text};
+ghost use Rattle.zn_base.specs.Runs.{hex_digit, run_text, data_text};
+ghost use Rattle.zn_runs.specs.Rest.{text_from};
 
-use zn_base::{Part, Sink, WriteFault, write_parts};
+use itoa::Buffer;
 use std::simd::prelude::*;
+use zn_base::{Sink, WriteFault, write_all};
+
+/// The most bytes of the text of a run behind a plus sign.
+pub const MOST_RUN: usize = 24;
 
 const LANES: usize = 32;
 
@@ -46,38 +52,84 @@ fn equal_front(bytes: &[u8], byte: u8) -> usize
     at
 }
 
-/// Writes one run, behind a plus sign where it isn't the first.
-fn write_run<K: Sink>(
-    sink: &mut K,
-    is_first: bool,
-    byte: u8,
-    count: usize,
-) -> Result<(), WriteFault>
-    ensures { Writes result ((if is_first then [] else codes "+") ++ run_text (record { byte = byte; count = count }))
-        (K.state sink.old) (K.state sink.new) }
+/// Puts a text into the buffer at a place, and answers where it ends.
+#[inline(always)]
+fn put(buffer: &mut [u8], at: usize, text: &[u8]) -> usize
+    requires { at + length text.now ≤ length buffer.old }
+    ensures end { result ≡ at + length text.now }
+    ensures text { take result buffer.new ≡ take at buffer.old ++ text.now }
 {
-    let joint: &[u8] = if is_first { b"" } else { b"+" };
-    write_parts(
-        sink,
-        &[
-            Part::Text(joint),
-            Part::Hex(byte),
-            Part::Text(b"*"),
-            Part::Number(count as u64),
-        ],
-    )
+    let end = at + text.len();
+    buffer[at..end].copy_from_slice(text);
+    end
 }
 
-/// Writes bytes as runs, each as long as it may be: `61*2+62*1` for two bytes of 0x61 and one of 0x62.
-pub fn write_runs<K: Sink>(sink: &mut K, bytes: &[u8]) -> Result<(), WriteFault>
-    ensures { Writes result (data_text bytes.now) (K.state sink.old) (K.state sink.new) }
+fn hex_digit(n: u8) -> u8
+    requires { n < 16 }
+    ensures { result ≡ hex_digit n }
+{
+    if n < 10 { b'0' + n } else { b'a' + (n - 10) }
+}
+
+/// Puts a run into the buffer at a place, behind a plus sign where it isn't the first, and answers where it ends.
+fn put_run(buffer: &mut [u8], at: usize, is_first: bool, byte: u8, count: usize) -> usize
+    requires { at + MOST_RUN ≤ length buffer.old }
+    ensures within { result ≤ length buffer.new }
+    ensures text { take result buffer.new ≡ take at buffer.old
+        ++ ((if is_first then [] else codes "+") ++ run_text (record { byte = byte; count = count })) }
+{
+    let joint: &[u8] = if is_first { b"" } else { b"+" };
+    let joined = put(buffer, at, joint);
+    let starred = put(
+        buffer,
+        joined,
+        &[hex_digit(byte / 16), hex_digit(byte % 16), b'*'],
+    );
+    let mut digits = Buffer::new();
+    put(buffer, starred, digits.format(count).as_bytes())
+}
+
+/// What runs were put into a buffer.
+#[derive(Clone, Copy)]
+struct Filled {
+    /// How many bytes the buffer holds.
+    held: usize,
+    /// Where the next run begins.
+    next: usize,
+}
+
+/// Puts the runs from a place on into the buffer, as long as there is room for one more.
+fn put_runs(buffer: &mut [u8], bytes: &[u8], from: usize) -> Filled
+    requires room { MOST_RUN ≤ length buffer.old }
+    requires inside { from < length bytes.now }
+    ensures held { result.held ≤ length buffer.new }
+    ensures further { from < result.next }
+    ensures within { result.next ≤ length bytes.now }
+    ensures text { text_from bytes.now from ≡ take result.held buffer.new ++ text_from bytes.now result.next }
+{
+    let mut held = 0;
+    let mut next = from;
+    while next < bytes.len() && buffer.len() - held >= MOST_RUN {
+        let byte = bytes[next];
+        let count = equal_front(&bytes[next..], byte);
+        held = put_run(buffer, held, next == 0, byte, count);
+        next += count;
+    }
+    Filled { held, next }
+}
+
+/// Writes bytes as runs, each as long as it may be: `61*2+62*1` for two bytes of 0x61 and one of 0x62. The runs are
+/// put into the buffer, which goes to the sink where no other has room in it, and at the end.
+pub fn write_runs<K: Sink>(sink: &mut K, bytes: &[u8], buffer: &mut [u8]) -> Result<(), WriteFault>
+    requires room { MOST_RUN ≤ length buffer.old }
+    ensures written { Writes result (data_text bytes.now) (K.state sink.old) (K.state sink.new) }
+    ensures room { length buffer.new ≡ length buffer.old }
 {
     let mut at = 0;
     while at < bytes.len() {
-        let byte = bytes[at];
-        let count = equal_front(&bytes[at..], byte);
-        match write_run(sink, at == 0, byte, count) {
-            Ok(()) => at += count,
+        let filled = put_runs(buffer, bytes, at);
+        match write_all(sink, &buffer[..filled.held]) {
+            Ok(()) => at = filled.next,
             Err(fault) => return Err(fault),
         }
     }

@@ -1,12 +1,12 @@
 use Rattle.std.proofs.Common.{◌≡◌, ◌≤◌, ◌-◌, length}
-use Rattle.zn_base.proofs.RunLaws.{RunsSoFar}
+use Rattle.zn_runs.proofs.RestLaws.{RestLeft}
 use Rattle.zn_runs.proofs.runs.write_runs.Given as goal
 
--- the runs before this place are written
+-- the runs before this place are written, and no write failed
 abbrev pub invariant-loop-at : goal.invariant-loop-at
 invariant-loop-at g l = record {
   within : l.at ≤ length l.bytes;
-  so_far : RunsSoFar (g.K.Sink.state l.fn.sink).written (g.K.Sink.state l.sink).written l.bytes l.at;
+  left : RestLeft (g.K.Sink.state l.fn.sink).written (g.K.Sink.state l.sink).written l.bytes l.at;
   kept : (g.K.Sink.state l.sink).faults ≡ (g.K.Sink.state l.fn.sink).faults;
 }
 
