@@ -555,11 +555,11 @@ fn comments(alloc: Global, count: usize, len: usize, more: &[u8]) -> Result<Vec<
 }
 
 #[test]
-fn long_scripts_are_refused(rt: HostRuntime) -> Result<(), Fail> {
+fn long_scripts_are_carried_out(rt: HostRuntime) -> Result<(), Fail> {
     for (count, len, status, written) in [
         (1, 65_536, Status::Done, "ok 0\n"),
         (1, 65_537, Status::Script, "line-too-long 1\n"),
-        (300, 65_536, Status::Script, "script-too-long 256\n"),
+        (300, 65_536, Status::Done, "ok 0\n"),
     ] {
         let script = comments(rt.alloc(), count, len, b"size 0\n")?;
         let mut source = source_of(rt.alloc(), &script, &[])?;
