@@ -16,7 +16,7 @@ use Rattle.zn_run.specs.Laws.{LacksMemory, RunCauses, IsFaultless, RanAll}
 use Rattle.zn_run.specs.States.{Run, Streams, HasRisen, Added, run_of, driven, streams}
 use Rattle.zn_run.specs.declared.status.Status.{Status}
 use Rattle.zn_run.specs.declared.status.Status.TheVariants.{Done, Usage, Script, Memory}
-use Rattle.zn_run.proofs.RunLaws.{statuses_have_causes, faultless_runs, whole_runs}
+use Rattle.zn_run.proofs.RunLaws.{statuses_have_causes, faultless_runs, whole_runs, unread_rest}
 use Rattle.zn_words.specs.Commands.{Command, Scratch, Add, Mkfs, Running, Format}
 use Rattle.zn_commands.specs.Outside.{Outside, IsQuiet}
 use Rattle.zn_commands.specs.Running.{RunsWhole}
@@ -77,6 +77,7 @@ starved_scratch (inl c) = record {
   done = λ is. absurd (cc);
   directory = λ is. cc;
   host = λ is. cc;
+  early = λ is. absurd (cc);
   source = λ is. absurd (cc);
   sink = λ is. absurd (cc);
   memory = λ is. inl c.1;
@@ -87,6 +88,7 @@ starved_scratch (inr c) = record {
   done = λ is. absurd (cc);
   directory = λ is. cc;
   host = λ is. cc;
+  early = λ is. absurd (cc);
   source = λ is. absurd (cc);
   sink = λ is. c.1.risen;
   memory = λ is. absurd (cc);
@@ -106,6 +108,7 @@ scratched_causes {s = s} {entropy = entropy} {result = result} {old = old} {new 
       done = λ is. record { files = ap (λ (f : FilesState). f.faults) files; reads = (c.done is).1.reads; writes = (c.done is).1.writes };
       directory = c.directory;
       host = λ is. never_risen h.machine.breaks h.whole (c.host_fault is);
+      early = λ is. unread_rest result (begun s entropy (streams_in old)) (ended h) h.headline (inl is);
       source = c.read_fault;
       sink = c.write_fault;
       memory = λ is. ran_out s entropy (streams_in old) (ended h) (c.memory is);

@@ -11,7 +11,7 @@ use Rattle.zn_lines.specs.Transcript.{transcript_of, whole_text}
 use Rattle.zn_lines.specs.declared.words.Scratch.{Scratch as Asked}
 use Rattle.zn_run.specs.Endings.{out_of_memory}
 use Rattle.zn_run.specs.Headline.{Closed, Headline}
-use Rattle.zn_run.specs.Laws.{StarvedIn}
+use Rattle.zn_run.specs.Laws.{StarvedIn, EndsNear}
 use Rattle.zn_run.specs.States.{MachineState, Streams, HasRisen, Added, run_of}
 use Rattle.zn_run.specs.Statuses.{status_of}
 use Rattle.zn_run.specs.declared.status.Status.{Status}
@@ -109,6 +109,8 @@ pub record ScratchCauses (s : Asked) (entropy : List ℕ) (result : Status) (old
   pub done : result ≡ Done → IsCountKept old new
   pub directory : result ≡ Directory → ⊥
   pub host : result ≡ HostFault → ⊥
+  -- the script ended the run at a line: from its first byte on the source has given few bytes
+  pub early : result ≡ Script → EndsNear (run_of (scratch_machine s entropy) old.source old.sink) (streams_in new)
   pub source : result ≡ ReadFault → HasRisen old.source.faults new.source.faults
   pub sink : result ≡ WriteFault → HasRisen old.sink.faults new.sink.faults
   -- no reply was written, or the line behind those that were takes memory itself

@@ -27,7 +27,7 @@ use Rattle.zn_commands.specs.Outside.{Outside, IsQuiet}
 use Rattle.zn_commands.specs.Running.{opened_machine, RunsShut, RunsStarved, RunsOpened, Runs, WasShut, RunningCauses, Holds, IsWhole, RunsWhole}
 use Rattle.zn_stand.proofs.DeviceRest.{stands as rest_stands}
 use Rattle.zn_commands.proofs.StillTold.{told_behind}
-use Rattle.zn_commands.proofs.ZeroLaws.{ZeroCauses, RanBehind, zero_causes, whole_behind}
+use Rattle.zn_commands.proofs.ZeroLaws.{ZeroCauses, RanBehind, zero_causes, whole_behind, neither}
 
 -- ---- causes
 
@@ -39,6 +39,7 @@ cut_causes is risen = record {
   usage = λ other. cc;
   directory = λ other. absurd (cc);
   host = λ other. absurd (cc);
+  early = neither (λ other. cc) (λ other. cc);
   source = λ other. absurd (cc);
   sink = λ _. risen;
 }
@@ -50,17 +51,19 @@ starved_causes is = record {
   usage = λ other. cc;
   directory = λ other. absurd (cc);
   host = λ other. absurd (cc);
+  early = neither (λ other. cc) (λ other. cc);
   source = λ other. absurd (cc);
   sink = λ other. absurd (cc);
 }
 
-broken_causes : {status : Status} {old new : Outside} → status ≡ HostFault → HasRisen old.files.faults new.files.faults → RunningCauses status old new
-broken_causes is risen = record {
+broken_causes : {status : Status} {old new : Outside} → status ≡ HostFault → HasRisen old.files.faults new.files.faults → new.source ≡ old.source → RunningCauses status old new
+broken_causes is risen unread = record {
   read = λ other. absurd (cc);
   done = λ other. absurd (cc);
   usage = λ other. cc;
   directory = λ other. absurd (cc);
   host = λ _. risen;
+  early = λ _. inl unread;
   source = λ other. absurd (cc);
   sink = λ other. absurd (cc);
 }
@@ -72,6 +75,7 @@ refused_causes is shut = record {
   usage = λ other. cc;
   directory = λ _. shut;
   host = λ other. absurd (cc);
+  early = neither (λ other. cc) (λ other. cc);
   source = λ other. absurd (cc);
   sink = λ other. absurd (cc);
 }
@@ -95,7 +99,7 @@ shut_is no_memory = for_memory refl
 shut_written : {status : Status} {old new : Outside} (h : RunsShut status old new) → status ≡ open_status h.why → Added (open_line h.why) old.sink new.sink → ShutIs h.why → RunningCauses status old new
 shut_written h is line (for_cause directory cause) =
     refused_causes (is ∙ directory) (record { why = h.why; is = cause; line = line; source = h.source; cause = h.shut.cause; rest = λ d told. h.shut.rest d told cause })
-shut_written h is line (for_fault host fault) = broken_causes (is ∙ host) (record { later = h.shut.later; rose = h.shut.fault fault })
+shut_written h is line (for_fault host fault) = broken_causes (is ∙ host) (record { later = h.shut.later; rose = h.shut.fault fault }) h.source
 shut_written h is line (for_memory memory) = starved_causes (is ∙ memory)
 
 shut_causes : {status : Status} {old new : Outside} (h : RunsShut status old new) → Closes status (open_status h.why) (open_line h.why) old.sink new.sink → RunningCauses status old new
@@ -126,6 +130,7 @@ module _ {options : Option (List ℕ)} {entropy : List ℕ} {status : Status} {o
         usage = c.usage;
         directory = λ is. absurd (c.directory is);
         host = λ is. subst (λ n. HasRisen old.files.faults n) h.lies.breaks (subst (λ n. HasRisen n h.machine.breaks) breaks_before (c.host_fault is));
+        early = c.early;
         source = c.read_fault;
         sink = c.write_fault;
       }

@@ -12,16 +12,16 @@ use Rattle.zn_lines.specs.Transcript.{Transcript, transcript_of, tail_of, last_l
 use Rattle.zn_lines.proofs.ToldLines.{line_still, line_same}
 use Rattle.zn_run.specs.Endings.{out_of_memory, host_fault}
 use Rattle.zn_run.specs.Headline.{Closes, Headline}
-use Rattle.zn_run.specs.Laws.{IsKept, IsFaultless, RunCauses, RanAll, LacksMemory}
-use Rattle.zn_run.specs.States.{State, Run, HasRisen, Added, run_of, driven}
+use Rattle.zn_run.specs.Laws.{IsKept, IsFaultless, RunCauses, RanAll, LacksMemory, EndsNear}
+use Rattle.zn_run.specs.States.{State, Run, HasRisen, Added, run_of, driven, streams}
 use Rattle.zn_run.specs.Statuses.{status_of}
 use Rattle.zn_run.specs.Steps.{Stepped, Answered}
 use Rattle.zn_run.specs.declared.machine.Step.{Step}
 use Rattle.zn_run.specs.declared.machine.Step.TheVariants.{Done as done_step, BadLine, Broken, SinkFault, Memory as starved_step}
 use Rattle.zn_run.specs.declared.status.Status.{Status}
-use Rattle.zn_run.specs.declared.status.Status.TheVariants.{Done, Usage, Directory, HostFault, ReadFault, WriteFault, Memory}
+use Rattle.zn_run.specs.declared.status.Status.TheVariants.{Done, Usage, Script, Directory, HostFault, ReadFault, WriteFault, Memory}
 use Rattle.zn_run.proofs.LineLaws.{added_then}
-use Rattle.zn_run.proofs.RunLaws.{statuses_have_causes, whole_runs}
+use Rattle.zn_run.proofs.RunLaws.{statuses_have_causes, whole_runs, unread_rest}
 use Rattle.zn_commands.specs.LineZero.{line_zero, transcript_behind, CarriesOut, Follows, RunsBehind}
 
 -- ---- causes
@@ -32,8 +32,14 @@ pub record ZeroCauses (status : Status) (old new : Run) : Type 0 where
   pub usage : status ≡ Usage → ⊥
   pub directory : status ≡ Directory → ⊥
   pub host_fault : status ≡ HostFault → HasRisen old.machine.breaks new.machine.breaks
+  pub early : (status ≡ Script) ⊎ (status ≡ HostFault) → (new.source ≡ old.source) ⊎ ((start : Run) × (start.source ≡ old.source) × EndsNear start (streams new))
   pub read_fault : status ≡ ReadFault → HasRisen old.source.faults new.source.faults
   pub write_fault : status ≡ WriteFault → HasRisen old.sink.faults new.sink.faults
+
+-- it is another status
+pub neither : {status : Status} {X : Type 0} → (status ≡ Script → ⊥) → (status ≡ HostFault → ⊥) → (status ≡ Script) ⊎ (status ≡ HostFault) → X
+neither a b (inl is) = absurd (a is)
+neither a b (inr is) = absurd (b is)
 
 -- the script is run from a place where no count has moved
 script_causes : (status : Status) (old new : Run) (middle : State) → middle.machine.breaks ≡ old.machine.breaks → middle.sink.faults ≡ old.sink.faults
@@ -45,6 +51,7 @@ script_causes status old new middle breaks writes h =
       usage = c.usage;
       directory = c.directory;
       host_fault = λ is. subst (λ n. HasRisen n new.machine.breaks) breaks (c.host_fault is);
+      early = λ is. inr (run_of middle.machine old.source middle.sink, refl, unread_rest status (run_of middle.machine old.source middle.sink) new h is);
       read_fault = c.read_fault;
       write_fault = λ is. subst (λ n. HasRisen n new.sink.faults) writes (c.write_fault is);
     }
@@ -56,19 +63,21 @@ cut_causes status old new is risen = record {
   usage = λ other. cc;
   directory = λ other. cc;
   host_fault = λ other. absurd (cc);
+  early = neither (λ other. cc) (λ other. cc);
   read_fault = λ other. absurd (cc);
   write_fault = λ _. risen;
 }
 
 -- the run ends with a last line of this status before the script
-ended_causes : (status meant : Status) (line : List ℕ) (old new : Run) (middle : State) → middle.sink ≡ old.sink
+ended_causes : (status meant : Status) (line : List ℕ) (old new : Run) (middle : State) → middle.sink ≡ old.sink → new.source ≡ old.source
     → (meant ≡ HostFault → HasRisen old.machine.breaks new.machine.breaks) → (meant ≡ HostFault) ⊎ (meant ≡ Memory)
     → Closes status meant line middle.sink new.sink → ZeroCauses status old new
-ended_causes status meant line old new middle sink risen among (inl c) = record {
+ended_causes status meant line old new middle sink source risen among (inl c) = record {
   done = λ is. absurd (apart among (sym c.0 ∙ is));
   usage = λ is. apart_usage among (sym c.0 ∙ is);
   directory = λ is. apart_directory among (sym c.0 ∙ is);
   host_fault = λ is. risen (sym c.0 ∙ is);
+  early = λ _. inl source;
   read_fault = λ is. absurd (apart_read among (sym c.0 ∙ is));
   write_fault = λ is. absurd (apart_write among (sym c.0 ∙ is));
 }
@@ -92,7 +101,7 @@ ended_causes status meant line old new middle sink risen among (inl c) = record 
     apart_write : (meant ≡ HostFault) ⊎ (meant ≡ Memory) → meant ≡ WriteFault → ⊥
     apart_write (inl a) b = cc
     apart_write (inr a) b = cc
-ended_causes status meant line old new middle sink risen among (inr c) =
+ended_causes status meant line old new middle sink source risen among (inr c) =
     cut_causes status old new c.0 (subst (λ (s : SinkState). HasRisen s.faults new.sink.faults) sink c.1.risen)
 
 causes_by : (step : Step) (zero : Option Line) (status : Status) (old new : Run) (middle : State) → CarriesOut step zero (driven old) middle
@@ -105,14 +114,14 @@ causes_by (BadLine column) None status old new middle carried h = absurd h
 causes_by (BadLine column) (Some line) status old new middle carried h = absurd h
 causes_by Broken None status old new middle carried h = absurd carried
 causes_by Broken (Some line) status old new middle carried h =
-    ended_causes status HostFault (host_fault 0) old new middle carried.means.sink
+    ended_causes status HostFault (host_fault 0) old new middle carried.means.sink h.source
     (λ _. subst (λ n. HasRisen old.machine.breaks n) (ap (λ m. m.breaks) (sym h.machine)) carried.means.risen) (inl refl) h.closed.means
 causes_by SinkFault None status old new middle carried h = absurd carried
 causes_by SinkFault (Some line) status old new middle carried h =
     cut_causes status old new h.status (subst (λ (r : Run). HasRisen old.sink.faults r.sink.faults) (sym h.same) carried.means.reply.risen)
 causes_by starved_step None status old new middle carried h = absurd carried
 causes_by starved_step (Some line) status old new middle carried h =
-    ended_causes status Memory out_of_memory old new middle carried.means.sink (λ is. absurd (cc)) (inr refl) h.closed.means
+    ended_causes status Memory out_of_memory old new middle carried.means.sink h.source (λ is. absurd (cc)) (inr refl) h.closed.means
 
 pub zero_causes : (zero : Option Line) (status : Status) (old new : Run) → RunsBehind zero status old new → ZeroCauses status old new
 zero_causes zero status old new h = causes_by h.step zero status old new h.middle h.carries h.follows

@@ -15,10 +15,11 @@ use Rattle.zn_lines.specs.Table.{fresh_table}
 use Rattle.zn_lines.specs.Transcript.{whole_text}
 use Rattle.zn_run.specs.Endings.{out_of_memory}
 use Rattle.zn_run.specs.Headline.{Closed}
-use Rattle.zn_run.specs.States.{MachineState, HasRisen, Added, run_of}
+use Rattle.zn_run.specs.Laws.{EndsNear}
+use Rattle.zn_run.specs.States.{MachineState, Run, HasRisen, Added, run_of}
 use Rattle.zn_run.specs.Statuses.{status_of}
 use Rattle.zn_run.specs.declared.status.Status.{Status}
-use Rattle.zn_run.specs.declared.status.Status.TheVariants.{Done, Usage, Directory as BadDirectory, HostFault}
+use Rattle.zn_run.specs.declared.status.Status.TheVariants.{Done, Usage, Script, Directory as BadDirectory, HostFault}
 use Rattle.zn_run.specs.declared.status.Status.TheVariants.{ReadFault, WriteFault, Memory}
 use Rattle.zn_commands.specs.Lines.{open_status, open_line}
 use Rattle.zn_commands.specs.Devices.{LiesIn}
@@ -88,6 +89,13 @@ pub record WasShut (old new : Outside) : Type 0 where
   pub cause : (d : Directory) → directory old.files ≡ Some d → IsCauseIn (contents d) why
   pub rest : (d : Directory) → directory old.files ≡ Some d → directory new.files ≡ Some (rested (contents d))
 
+-- The script ended the run at a line, or the host failed in one: from its first byte on the source has given few bytes,
+-- and none at all at line 0.
+abbrev pub EndsEarly : Outside → Outside → Type 0
+EndsEarly old new =
+    (new.source ≡ old.source)
+    ⊎ ((start : Run) × (start.source ≡ old.source) × EndsNear start (record { source = new.source; sink = new.sink }))
+
 -- When each status of a run on a directory comes. Want of memory is free, and what the script says is told apart.
 pub record RunningCauses (status : Status) (old new : Outside) : Type 0 where
   -- the script was read to its end, and no count rose
@@ -96,6 +104,7 @@ pub record RunningCauses (status : Status) (old new : Outside) : Type 0 where
   pub usage : status ≡ Usage → ⊥
   pub directory : status ≡ BadDirectory → WasShut old new
   pub host : status ≡ HostFault → HasRisen old.files.faults new.files.faults
+  pub early : (status ≡ Script) ⊎ (status ≡ HostFault) → EndsEarly old new
   pub source : status ≡ ReadFault → HasRisen old.source.faults new.source.faults
   pub sink : status ≡ WriteFault → HasRisen old.sink.faults new.sink.faults
 
