@@ -2,8 +2,9 @@ use std::alloc::Global;
 use std::process::Abort;
 use std::test::Fail;
 use zn_base::memory::MemSink;
-use zn_base::{Sink, write_all, write_runs};
+use zn_base::{Sink, write_all};
 use zn_files::{Choice, FileCall, FileError, Files, MemFiles, Names, Text};
+use zn_runs::write_runs;
 
 /// A call on a file. A write has its place, a value and how many bytes of it there are.
 #[derive(Clone, Copy)]
@@ -54,6 +55,7 @@ fn text_of(
     let Ok(names) = files.names() else {
         panic!(rt; "no names");
     };
+    let mut buffer = [0; 64];
     for i in 0..names.count() {
         let name = names.at(i);
         let Ok(len) = files.len(name) else {
@@ -63,7 +65,7 @@ fn text_of(
         assert!(rt; files.read_at(name, 0, &mut bytes).is_ok());
         assert!(rt; write_all(sink, name.as_bytes()).is_ok());
         assert!(rt; write_all(sink, b"=").is_ok());
-        assert!(rt; write_runs(sink, &bytes).is_ok());
+        assert!(rt; write_runs(sink, &bytes, &mut buffer).is_ok());
         assert!(rt; write_all(sink, b" ").is_ok());
     }
     Ok(())

@@ -15,9 +15,10 @@ ghost use Rattle.zn_session.specs.Replies.{kept_in, text_of, front_text, told_li
 ghost use Rattle.zn_session.specs.Replies.{directory_names};
 
 use crate::room::{Room, ZoneTold};
-use zn_base::{Part, Sink, WriteFault, write_all, write_parts, write_runs};
+use zn_base::{Part, Sink, WriteFault, write_all, write_parts};
 use zn_model::{Attr, Done, FormatError, MountError, OptError, Outcome, Refusal, Stat, Why};
 use zn_report::zone_line;
+use zn_runs::RunBuffer;
 use zn_truth::{Cond, InjectError, ZoneNo};
 
 /// What a line is answered.
@@ -212,7 +213,7 @@ fn write_front<K: Sink>(sink: &mut K, count: u64) -> Result<(), WriteFault>
 }
 
 /// Writes the bytes of a read as runs, behind their number.
-fn write_bytes<K: Sink>(sink: &mut K, bytes: &[u8]) -> Result<(), WriteFault>
+fn write_bytes<K: Sink>(sink: &mut K, bytes: &[u8], runs: &mut RunBuffer) -> Result<(), WriteFault>
     requires { length bytes.now ≤ MOST_BYTES }
     ensures { Writes result (read_text bytes.now) (K.state sink.old) (K.state sink.new) }
 {
@@ -222,7 +223,7 @@ fn write_bytes<K: Sink>(sink: &mut K, bytes: &[u8]) -> Result<(), WriteFault>
     if let Err(fault) = write_front(sink, bytes.len() as u64) {
         return Err(fault);
     }
-    match write_runs(sink, bytes) {
+    match runs.write(sink, bytes) {
         Ok(()) => write_all(sink, b"\n"),
         Err(fault) => Err(fault),
     }
@@ -441,7 +442,12 @@ fn write_zones<K: Sink>(sink: &mut K, zones: &[ZoneTold]) -> Result<(), WriteFau
 }
 
 /// Writes the text of a reply. The room has the bytes of a read, and the zones of a report.
-pub fn write_reply<K: Sink>(sink: &mut K, reply: &Reply<'_>, room: &Room) -> Result<(), WriteFault>
+pub fn write_reply<K: Sink>(
+    sink: &mut K,
+    reply: &Reply<'_>,
+    room: &Room,
+    runs: &mut RunBuffer,
+) -> Result<(), WriteFault>
     requires { IsWritable reply.now (kept_in room.now) }
     ensures { Writes result (text_of reply.now (kept_in room.now)) (K.state sink.old) (K.state sink.new) }
 {
@@ -458,7 +464,7 @@ pub fn write_reply<K: Sink>(sink: &mut K, reply: &Reply<'_>, room: &Room) -> Res
         Reply::InjectRefused(error) => write_error(sink, inject_error_text(*error)),
         Reply::Done => write_all(sink, b"ok\n"),
         Reply::Number(number) => write_count(sink, *number),
-        Reply::Bytes(count) => write_bytes(sink, &room.bytes[..*count]),
+        Reply::Bytes(count) => write_bytes(sink, &room.bytes[..*count], runs),
         Reply::Reaped(done) => write_done(sink, done),
         Reply::Told(path, stat) => write_stat(sink, path.as_bytes(), stat),
         Reply::Directories(cnv, seq) => write_directories(sink, *cnv, *seq),

@@ -27,6 +27,7 @@ use zn_device::{Injects, Zoned};
 use zn_lines::MAX_NUMBERS;
 use zn_model::{FormatError, Handle, MountError, Refusal};
 use zn_run::{Machine, Step};
+use zn_runs::RunBuffer;
 use zn_script::{Line, parse};
 use zn_truth::InjectError;
 
@@ -41,6 +42,8 @@ pub struct Session<D: Injects + Drop> {
     numbers: Vec<Option<Handle>>,
     /// Room for the bytes of a call, and for a report of all zones.
     room: Room,
+    /// Where the runs of a read are put.
+    runs: RunBuffer,
     /// What a format without an identifier makes one of.
     entropy: [u8; 16],
     /// Whether no further line may come.
@@ -79,14 +82,18 @@ fn no_handles(alloc: Global) -> Result<Vec<Option<Handle>>, AllocError>
     Ok(numbers)
 }
 
-/// All the memory that a session keeps: the handles of its numbers, and room for its calls and reports.
-fn take_parts<D: Zoned>(alloc: Global, dev: &D) -> Result<(Vec<Option<Handle>>, Room), AllocError>
+/// All the memory that a session keeps: the handles of its numbers, and room for its calls, reports and replies.
+fn take_parts<D: Zoned>(
+    alloc: Global,
+    dev: &D,
+) -> Result<(Vec<Option<Handle>>, Room, RunBuffer), AllocError>
     ensures numbers { IfOk result (λ parts. parts.0.items ≡ no_numbers) }
     ensures room { IfOk result (λ parts. HasRoom (length (geometry_of (D.state dev.now).world).kinds) parts.1) }
 {
     let numbers = no_handles(alloc)?;
     let room = take_room(alloc, dev)?;
-    Ok((numbers, room))
+    let runs = RunBuffer::new(alloc)?;
+    Ok((numbers, room, runs))
 }
 
 /// Whether a reply ends the run.
@@ -134,11 +141,11 @@ fn stops(step: Step) -> bool
 }
 
 /// Writes the text of a reply.
-fn say<K: Sink>(sink: &mut K, reply: &Reply<'_>, room: &Room) -> Step
+fn say<K: Sink>(sink: &mut K, reply: &Reply<'_>, room: &Room, runs: &mut RunBuffer) -> Step
     requires { IsWritable reply.now (kept_in room.now) }
     ensures { Said result (text_of reply.now (kept_in room.now)) (K.state sink.old) (K.state sink.new) }
 {
-    match write_reply(sink, reply, room) {
+    match write_reply(sink, reply, room, runs) {
         Ok(()) => Step::Done,
         Err(_) => Step::SinkFault,
     }
@@ -241,7 +248,7 @@ impl<D: Injects + Drop> Session<D> {
         ensures begun { IfOk result (λ s. s ≡ begun (D.state dev) entropy) }
         ensures failed { IfErr result (λ fail. D.state fail.dev ≡ D.state dev) }
     {
-        let Ok((numbers, room)) = take_parts(alloc, &dev) else {
+        let Ok((numbers, room, runs)) = take_parts(alloc, &dev) else {
             return Err(SessionFail { dev });
         };
         Ok(Session {
@@ -249,6 +256,7 @@ impl<D: Injects + Drop> Session<D> {
             held: Some(Held::Bare(dev)),
             numbers,
             room,
+            runs,
             entropy,
             is_over: false,
             steps: 0,
@@ -320,7 +328,7 @@ impl<D: Injects + Drop> Session<D> {
             self.is_over = true;
             return ending(breaks(&self.held) != before, &reply);
         }
-        let step = say(sink, &reply, &self.room);
+        let step = say(sink, &reply, &self.room, &mut self.runs);
         self.is_over = stops(step);
         step
     }

@@ -12,5 +12,5 @@ returns-in-Err g c = writes_as (read_some c.args.bytes.now (grind (arith, common
 pub returns-in-Ok : goal.returns-in-Ok
 returns-in-Ok g c = writes_as (read_some c.args.bytes.now (grind (arith, common_steps))) (writes_then c.in_default.ensures (writes_then c.in-Ok.ensures c.write_all-in-Ok.ensures))
 
-pub returns-in-Err-write_runs : goal.returns-in-Err-write_runs
-returns-in-Err-write_runs g c = writes_as (read_some c.args.bytes.now (grind (arith, common_steps))) (writes_then c.in_default.ensures (writes_cut (codes "\n") (Err c.in-Err-write_runs.fault) refl c.in-Err-write_runs.ensures))
+pub returns-in-Err-write : goal.returns-in-Err-write
+returns-in-Err-write g c = writes_as (read_some c.args.bytes.now (grind (arith, common_steps))) (writes_then c.in_default.ensures (writes_cut (codes "\n") (Err c.in-Err-write.fault) refl c.in-Err-write.ensures))
