@@ -1,5 +1,5 @@
 -- Where a command to a device in memory finds what it works on.
-use Rattle.std.specs.Prelude.{if◌then◌else◌, nat_lt}
+use Rattle.std.specs.Prelude.{if◌then◌else◌, nat_lt, vec_capacity}
 use Rattle.std.proofs.Common.{◌≡◌, ℕ, ◌+◌, ◌*◌, ◌<◌, ◌≤◌, true, List, [], ◌∷◌, length, map, set, get_or, Some, None, zero-add, refl, sym, ap, ◌∙◌, subst, arith, ⊎_elim}
 use Rattle.std.proofs.lemmas.List.{length-map, length-set, get_or-set_same, get_or-set_other}
 use Rattle.std.proofs.lemmas.Bool.{cases_eq}
@@ -132,13 +132,9 @@ pub flags_found : (shape : Shape) (kind : Kind) (info : ZoneInfo) (store : Store
 flags_found shape Conventional info store sound good is = grind (arith, nat_tests, sound.conventional, sound.flags)
 flags_found shape Sequential info store sound good is = absurd (cc)
 
--- the buffer has all that the zone holds
-pub buffer_holds : (shape : Shape) (kind : Kind) (info : ZoneInfo) (store : Store) → Found shape kind info store → 4096 * info.held ≤ length store.buffer.items
-buffer_holds shape kind info store known = omega (arith, known.sound.held, known.buffer)
-
--- and a conventional zone no more flags than blocks
+-- a conventional zone has no more flags than blocks
 pub flags_fit : (shape : Shape) (info : ZoneInfo) (store : Store) → Found shape Conventional info store → 4096 * length store.unflushed.items ≤ length store.buffer.items
-flags_fit shape info store known = omega (arith, known.sound.flags, buffer_holds shape Conventional info store known)
+flags_fit shape info store known = omega (arith, known.sound.flags, known.sound.bytes)
 
 -- what an accepted read found
 reading_none : (cond : Cond) (held end : ℕ) → reading cond (if nat_lt held end then Some BeyondWp else None) ≡ None → end ≤ held
@@ -175,19 +171,20 @@ pub stores_after : (f g : Facts) (order : Order) (stores : List Store) (z : ℕ)
 stores_after f g order stores z kind new is stored kind_is buffer =
     stores_set f g stores z new (ap geometry_by is ∙ geometry-after f order) stored (subst (λ k. HasBuffer f.shape k new) kind_is buffer)
 
--- after a store that keeps the length of its buffer
+-- after a store that keeps the room of its buffer
 pub stores_kept : (f : Facts) (stores : List Store) (z : ℕ) (old new : Store) → HasStores f stores → z < length stores → old ≡ get_or stores z old
-    → length new.buffer.items ≡ length old.buffer.items → HasStores f (set stores z new)
+    → vec_capacity new.buffer ≡ vec_capacity old.buffer → HasStores f (set stores z new)
 stores_kept f stores z old new stored below is same =
-    stores_set f f stores z new refl stored (same ∙ subst (λ s. HasBuffer f.shape (facts_at f z).kind s) (sym is) (stored.buffers z old below))
+    let before : HasBuffer f.shape (facts_at f z).kind old = subst (λ s. HasBuffer f.shape (facts_at f z).kind s) (sym is) (stored.buffers z old below) in
+    stores_set f f stores z new refl stored (omega arith)
 
 -- the geometry of the machine is that of its facts
 geometry-machine : (m : Machine) → geometry_by (facts m) ≡ geometry_in m
 geometry-machine m = ap (λ kinds. let g : Geometry = record { shape = m.shape; kinds = kinds } in g) (map-map (λ (zone : ZoneFacts). zone.kind) facts_in m.zones)
 
--- after a move of the machine, and a store that keeps the length of its buffer
+-- after a move of the machine, and a store that keeps the room of its buffer
 pub stores_moved : (m n : Machine) (stores : List Store) (z : ℕ) (old new : Store) → geometry_in n ≡ geometry_in m → HasStores (facts m) stores → z < length stores → old ≡ get_or stores z old
-    → length new.buffer.items ≡ length old.buffer.items → HasStores (facts n) (set stores z new)
+    → vec_capacity new.buffer ≡ vec_capacity old.buffer → HasStores (facts n) (set stores z new)
 stores_moved m n stores z old new same stored below is kept =
-    stores_set (facts m) (facts n) stores z new (geometry-machine n ∙ same ∙ sym (geometry-machine m)) stored
-    (kept ∙ subst (λ s. HasBuffer m.shape (facts_at (facts m) z).kind s) (sym is) (stored.buffers z old below))
+    let before : HasBuffer m.shape (facts_at (facts m) z).kind old = subst (λ s. HasBuffer m.shape (facts_at (facts m) z).kind s) (sym is) (stored.buffers z old below) in
+    stores_set (facts m) (facts n) stores z new (geometry-machine n ∙ same ∙ sym (geometry-machine m)) stored (omega arith)

@@ -157,18 +157,10 @@ zones-facts m = length-map m.zones facts_in
 
 -- ---- what a read gives
 
-take_of_part : (bytes : List ℕ) (held at n : ℕ) → at + n ≤ held → take (4096 * n) (drop (4096 * at) (take (4096 * held) bytes)) ≡ take (4096 * n) (drop (4096 * at) bytes)
-take_of_part bytes held at n within =
-    let more : 4096 * held ≡ 4096 * at + 4096 * (held - at) = omega arith in
-    ap (λ k. take (4096 * n) (drop (4096 * at) (take k bytes))) more
-    ∙ ap (take (4096 * n)) (drop-take (4096 * at) (4096 * (held - at)) bytes)
-    ∙ take-take (4096 * n) (4096 * (held - at)) (drop (4096 * at) bytes) (omega arith)
-
 pub read_bytes : (f : Facts) (stores : List Store) (z at n : ℕ) (store : Store) (out : List ℕ) (len : ℕ) → length stores ≡ length f.zones → z < length f.zones → store ≡ get_or stores z store
-    → at + n ≤ (facts_at f z).held → 4096 * n ≡ len → out ≡ take len (drop (4096 * at) store.buffer.items) → out ≡ bytes_at (truth_of f stores) z at n
-read_bytes f stores z at n store out len count below is within whole out_is =
+    → 4096 * n ≡ len → out ≡ take len (drop (4096 * at) store.buffer.items) → out ≡ bytes_at (truth_of f stores) z at n
+read_bytes f stores z at n store out len count below is whole out_is =
     out_is ∙ ap (λ k. take k (drop (4096 * at) store.buffer.items)) (sym whole)
-    ∙ sym (take_of_part store.buffer.items (facts_at f z).held at n within)
     ∙ sym (ap (λ (zone : Zone). take (4096 * n) (drop (4096 * at) zone.bytes)) (zone_at-truth_of f stores z store count below is))
 
 -- ---- a flush

@@ -1,5 +1,5 @@
 -- What a device in memory holds, by the facts of its condition machine and what it stores of each zone. (own)
-use Rattle.std.specs.Prelude.{◌≡◌, ℕ, ◌*◌, ◌<◌, true, List, [], ◌∷◌, length, take, slice_index_or}
+use Rattle.std.specs.Prelude.{◌≡◌, ℕ, ◌*◌, ◌<◌, ◌≤◌, true, List, [], ◌∷◌, length, slice_index_or, vec_capacity}
 use Rattle.zn_truth.specs.declared.limits.TheConstants.{BLOCK_SIZE}
 use Rattle.zn_truth.specs.declared.Kind.{Kind}
 use Rattle.zn_truth.specs.declared.Kind.TheVariants.{Conventional, Sequential}
@@ -17,7 +17,7 @@ zone_of kind info store = record {
   kind = kind;
   cond = info.cond;
   held = info.held;
-  bytes = take (BLOCK_SIZE * info.held) store.buffer.items;
+  bytes = store.buffer.items;
   durable = store.durable;
   unflushed = store.unflushed.items;
   explicit = info.explicit;
@@ -46,9 +46,9 @@ zones_of (zone ∷ zones) (store ∷ stores) = zone_of zone.kind (info_of zone) 
 abbrev pub truth_of : Facts → List Store → Truth
 truth_of f stores = record { told = true; shape = f.shape; zones = zones_of f.zones stores }
 
--- the store has a buffer for all that a zone of this kind has room for
+-- the store has a buffer for all that a zone of this kind has room for, whatever the zone holds
 abbrev pub HasBuffer : Shape → Kind → Store → Type 0
-HasBuffer shape kind store = length store.buffer.items ≡ BLOCK_SIZE * room shape kind
+HasBuffer shape kind store = BLOCK_SIZE * room shape kind ≤ vec_capacity store.buffer
 
 -- each zone has a store, and each store its buffer
 pub record HasStores (f : Facts) (stores : List Store) : Type 0 where

@@ -74,9 +74,8 @@ pub fn manage_stored(
     ensures stored { HasStores (facts zones.new) stores.new.items }
 {
     let shape = zones.shape();
-    let info = zones.info(z);
     zones.manage(z, op)?;
-    stores[z.0 as usize].manage(shape, info, op);
+    stores[z.0 as usize].manage(shape, op);
     Ok(())
 }
 

@@ -3,7 +3,7 @@ use Rattle.std.proofs.lemmas.Result.{err_from_is_err_and}
 use Rattle.zn_truth.specs.Orders.{ReadAt}
 use Rattle.zn_zone.specs.Facts.{facts_at, info_of}
 use Rattle.zn_zone.specs.Machine.{facts, refusal_in, dev_error}
-use Rattle.zn_device.proofs.Places.{place, found, buffer_holds, read_found}
+use Rattle.zn_device.proofs.Places.{place, found, read_found}
 use Rattle.zn_device.proofs.Stores.{zones-facts, refused_reply, done_reply, read_bytes}
 use Rattle.zn_device.proofs.commands.read_stored.Goals as goal
 
@@ -26,10 +26,9 @@ bounds-stores-z c = (place c.args.zones.now c.args.stores.now _ _ _ c.requires.d
 
 pub read-requires : goal.read-requires
 read-requires c =
-    let buffer = buffer_holds c.args.zones.now.shape (facts_at (facts c.args.zones.now) c.args.z.0).kind (info_of (facts_at (facts c.args.zones.now) c.args.z.0)) c.index-stores-z.result
-    (found c.args.zones.now c.args.stores.now c.args.z.0 (facts_at (facts c.args.zones.now) c.args.z.0).kind (info_of (facts_at (facts c.args.zones.now) c.args.z.0)) c.index-stores-z.result c.requires.device (place c.args.zones.now c.args.stores.now _ _ _ c.requires.device c.requires.fits).zone c.index-stores-z.is refl refl) in
+    let known = found c.args.zones.now c.args.stores.now c.args.z.0 (facts_at (facts c.args.zones.now) c.args.z.0).kind (info_of (facts_at (facts c.args.zones.now) c.args.z.0)) c.index-stores-z.result c.requires.device (place c.args.zones.now c.args.stores.now _ _ _ c.requires.device c.requires.fits).zone c.index-stores-z.is refl refl in
     let held = read_found (facts c.args.zones.now) c.args.z.0 (c.args.at + length c.args.out.now / 4096) (sym c.may_read.ensures ∙ ap refusal_in c.in_ok-may_read.was) in
-    omega (arith, buffer, held, c.requires.whole.whole)
+    omega (arith, known.sound.bytes, held, c.requires.whole.whole)
 
 pub returns-clause-reply : goal.returns-clause-reply
 returns-clause-reply c = sym (done_reply (facts c.args.zones.now) c.args.stores.now (ReadAt c.args.z.0 c.args.at (length c.args.out.now / 4096)) c.requires.device.stored.count (sym c.may_read.ensures ∙ ap refusal_in c.in_ok-may_read.was))
@@ -38,4 +37,4 @@ pub returns-clause-bytes : goal.returns-clause-bytes
 returns-clause-bytes c = λ ok.
     let p = place c.args.zones.now c.args.stores.now _ _ _ c.requires.device c.requires.fits in
     read_bytes (facts c.args.zones.now) c.args.stores.now c.args.z.0 c.args.at (length c.args.out.now / 4096) c.index-stores-z.result c.read.new.out (length c.args.out.now) c.requires.device.stored.count
-    (omega (arith, p.zone, zones-facts c.args.zones.now)) c.index-stores-z.is (read_found (facts c.args.zones.now) c.args.z.0 (c.args.at + length c.args.out.now / 4096) (sym c.may_read.ensures ∙ ap refusal_in c.in_ok-may_read.was)) c.requires.whole.whole c.read.ensures
+    (omega (arith, p.zone, zones-facts c.args.zones.now)) c.index-stores-z.is c.requires.whole.whole c.read.ensures

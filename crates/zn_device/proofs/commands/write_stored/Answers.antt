@@ -36,6 +36,13 @@ index_mut-requires c = let p = place c.args.zones.now c.args.stores.now.items _ 
 pub write-requires-2-clause-room : goal.write-requires-2-clause-room
 write-requires-2-clause-room c = rw (c.shape-shape.ensures, c.kind-kind.ensures) (place c.args.zones.now c.args.stores.now.items _ _ _ c.requires.device c.requires.fits).blocks
 
+pub write-requires-2-clause-held : goal.write-requires-2-clause-held
+write-requires-2-clause-held c =
+    let known = found c.args.zones.now c.args.stores.now.items c.args.z.0 c.kind-kind.result (info_of (facts_at (facts c.args.zones.now) c.args.z.0)) c.index_mut.result.now c.requires.device (place c.args.zones.now c.args.stores.now.items _ _ _ c.requires.device c.requires.fits).zone c.index_mut.ensures.value (kind_found c.args.zones.now c.args.z.0 c.kind-kind.result c.kind-kind.ensures) refl in
+    let found = write_found (facts c.args.zones.now) c.args.z.0 c.args.at c.args.bytes.now (sym c.write.ensures.refused ∙ ap refusal_in c.in_ok-write.was) in
+    let held = held_found c.args.zones.now.shape c.kind-kind.result (info_of (facts_at (facts c.args.zones.now) c.args.z.0)) c.index_mut.result.now c.args.at known.sound found.0 (λ is. found.1 (sym (kind_found c.args.zones.now c.args.z.0 c.kind-kind.result c.kind-kind.ensures) ∙ is)) in
+    rw c.shape-shape.ensures (omega (arith, held, known.sound.bytes))
+
 pub write-requires-2-clause-buffer : goal.write-requires-2-clause-buffer
 write-requires-2-clause-buffer c =
     let known = found c.args.zones.now c.args.stores.now.items c.args.z.0 c.kind-kind.result (info_of (facts_at (facts c.args.zones.now) c.args.z.0)) c.index_mut.result.now c.requires.device (place c.args.zones.now c.args.stores.now.items _ _ _ c.requires.device c.requires.fits).zone c.index_mut.ensures.value (kind_found c.args.zones.now c.args.z.0 c.kind-kind.result c.kind-kind.ensures) refl in

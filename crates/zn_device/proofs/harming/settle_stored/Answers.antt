@@ -21,19 +21,18 @@ cut-requires c =
 pub index_mut-requires : goal.index_mut-requires
 index_mut-requires c = let p = managed_place c.args.zones.now c.args.stores.now.items _ c.requires.device c.requires.zone in omega (arith, p.store, c.args.stores.now.ok.0)
 
-pub settle-requires-clause-buffer : goal.settle-requires-clause-buffer
-settle-requires-clause-buffer c =
+pub settle-requires-clause-held : goal.settle-requires-clause-held
+settle-requires-clause-held c =
     let p = managed_place c.args.zones.now c.args.stores.now.items _ c.requires.device c.requires.zone in
     let known = found c.args.zones.now c.args.stores.now.items c.args.z.0 Sequential (info_of (facts_at (facts c.args.zones.now) c.args.z.0)) c.index_mut.result.now c.requires.device p.zone c.index_mut.ensures.value
     (kind_found c.args.zones.now c.args.z.0 Sequential (sym p.kind)) refl in
     let most : c.args.len ≤ (facts_at (facts c.args.zones.now) c.args.z.0).held =
     subst (λ (zone : ZoneFacts). c.args.len ≤ zone.held) (facts_told (facts c.args.zones.now) c.args.stores.now.items c.args.z.0 c.requires.device.stored.count) c.requires.len in
-    omega (arith, known.buffer, known.sound.held)
+    omega (arith, known.sound.bytes)
 
 pub returns-clause-truth : goal.returns-clause-truth
 returns-clause-truth c =
     let p = managed_place c.args.zones.now c.args.stores.now.items _ c.requires.device c.requires.zone in
     settle_truth (facts c.args.zones.now) (facts c.cut.new.self) c.args.stores.now.items c.args.z.0 c.args.from c.args.len c.args.fill c.index_mut.result.now c.settle.new.self
     c.cut.ensures.facts c.requires.device.stored.count (omega (arith, p.zone, zones-facts c.args.zones.now)) c.index_mut.ensures.value (sym (kind_found c.args.zones.now c.args.z.0 Sequential (sym p.kind)))
-    (c.settle.ensures.zone (info_of (facts_at (facts c.args.zones.now) c.args.z.0))
-    (subst (λ (zone : ZoneFacts). c.args.len ≤ zone.held) (facts_told (facts c.args.zones.now) c.args.stores.now.items c.args.z.0 c.requires.device.stored.count) c.requires.len))
+    (c.settle.ensures.zone (info_of (facts_at (facts c.args.zones.now) c.args.z.0)))
