@@ -1,3 +1,5 @@
 pub mod Conditions
+pub mod Counts
+pub mod Kept
 pub mod Mounts
 pub mod Rooms

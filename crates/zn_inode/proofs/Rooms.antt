@@ -1,7 +1,8 @@
 -- The room of a file, and sizes within it.
-use Rattle.std.proofs.Common.{ℕ, ◌-◌, ◌*◌, ◌^◌, ◌<◌, ◌≤◌, Bool, arith}
+use Rattle.std.proofs.Common.{◌≡◌, ℕ, ◌-◌, ◌*◌, ◌/◌, ◌^◌, ◌<◌, ◌≤◌, Bool, arith}
+use Rattle.std.proofs.lemmas.Bool.Decides.{nat_tests}
 use Rattle.std.proofs.lemmas.Nat.{mul-le}
-use Rattle.std.specs.Prelude.{not, ◌&&◌, ◌==◌}
+use Rattle.std.specs.Prelude.{not, ◌&&◌, ◌==◌, nat_lt}
 use Rattle.zn_truth.specs.declared.limits.TheConstants.{BLOCK_SIZE}
 use Rattle.zn_truth.specs.declared.Cond.{Cond}
 use Rattle.zn_truth.specs.declared.Cond.TheVariants.{Good, ReadOnly, Offline}
@@ -39,3 +40,7 @@ pub recovered_within : (policy : Policy) (found : Found) (shape : Shape) (file :
     → (recovered_shown policy found shape file shown).size ≤ capacity_of shape file
 recovered_within policy found shape file shown held size =
     row_within policy found.cond (BLOCK_SIZE * found.held) shown.size (capacity_of shape file) (shown.held_open && is_good found.cond && not (found.held == room_of shape file)) (omega (arith, held)) size
+
+-- a size is below a whole number of blocks where its whole blocks are
+pub is_below_room : (size room : ℕ) → nat_lt (size / BLOCK_SIZE) room ≡ nat_lt size (BLOCK_SIZE * room)
+is_below_room size room = grind (arith, nat_tests)

@@ -8,6 +8,6 @@ mod tests;
 
 pub use inodes::Inodes;
 pub use shown::{
-    capacity, holds, makes_read_only, mounted_shown, policy_row, recovered_shown, room, worse,
-    worst, zone_room,
+    capacity, holds, is_shown_active, makes_read_only, mounted_shown, policy_row, recovered_shown,
+    room, worse, worst, zone_room,
 };

@@ -2,6 +2,7 @@
 ghost use Rattle.std.specs.Prelude.{◌≡◌, ◌*◌, ◌^◌, ◌<◌, ◌≤◌, length};
 ghost use Rattle.zn_truth.specs.declared.limits.TheConstants.{MAX_ZONES};
 ghost use Rattle.zn_model.specs.ZoneFiles.{zone_room_of, room_of, capacity_of};
+ghost use Rattle.zn_model.specs.Looks.{is_shown_active as is_counted_active};
 ghost use Rattle.zn_model.specs.ShownStates.{policy_row as row_of, worst as worst_of, worse as worse_of, holds as holds_of, mounted_by, makes_read_only as policy_makes_read_only};
 ghost use Rattle.zn_model.specs.Recovery.{recovered_shown as shown_recovered};
 ghost use Rattle.zn_report.specs.Layouts.{end_of};
@@ -35,6 +36,18 @@ pub fn capacity(shape: &Shape, file: &FileZones) -> u64
     ensures { result ≡ capacity_of shape.now file.now }
 {
     BLOCK_SIZE as u64 * room(shape, file)
+}
+
+/// Whether a file is sequential, may be written, and is held open or shown partly full.
+#[tactic(auto, using(crate::proofs::Rooms::is_below_room))]
+pub fn is_shown_active(shape: &Shape, file: &FileZones, shown: &Shown) -> bool
+    ensures { result ≡ is_counted_active shape.now file.now shown.now }
+{
+    // A capacity is a whole number of blocks, and may have more than 64 bits where it is given in bytes.
+    file.seq
+        && shown.may_write
+        && (shown.held_open
+            || 0 < shown.size && shown.size / (BLOCK_SIZE as u64) < room(shape, file))
 }
 
 /// The row of the table of policies: sizes are in bytes.
