@@ -5,7 +5,7 @@ use Rattle.std.specs.List.{range_with_len}
 use Rattle.std.proofs.lemmas.List.FromFn.{length-range_with_len, get_or-range_with_len}
 use Rattle.std.proofs.lemmas.List.Sums.{sum_by-cons, get_or-le-sum_by, count_by-le-length}
 
-count_cons : (p : ℕ → Bool) (a : ℕ) (xs : List ℕ) → count_by p (a ∷ xs) ≡ cond (p a) 1 0 + count_by p xs
+pub count_cons : (p : ℕ → Bool) (a : ℕ) (xs : List ℕ) → count_by p (a ∷ xs) ≡ cond (p a) 1 0 + count_by p xs
 count_cons p a xs = sum_by-cons (λ n. cond (p n) 1 0) a xs
 
 -- ---- one number more
@@ -45,8 +45,8 @@ counted_in p n k below =
 
 -- ---- two tests
 
--- what two tests agree on at each place
-count_alike : (p q : ℕ → Bool) (a n : ℕ) → ((i : ℕ) → i < n → p (a + i) ≡ q (a + i)) → count_by p (range_with_len a n) ≡ count_by q (range_with_len a n)
+-- two tests that agree at each place count alike
+pub count_alike : (p q : ℕ → Bool) (a n : ℕ) → ((i : ℕ) → i < n → p (a + i) ≡ q (a + i)) → count_by p (range_with_len a n) ≡ count_by q (range_with_len a n)
 count_alike p q a zero h = refl
 count_alike p q a (suc n) h =
     let head : p a ≡ q a = subst (λ (z : ℕ). p z ≡ q z) (add-zero a) (h 0 (omega arith)) in

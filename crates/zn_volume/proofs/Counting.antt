@@ -2,24 +2,12 @@
 use Rattle.std.proofs.Common.{◌≡◌, ℕ, zero, suc, ◌+◌, ◌-◌, ◌<◌, ◌≤◌, Bool, true, false, cond, List, [], ◌∷◌, length, refl, sym, ap, ◌∙◌, subst, arith, add-zero, zero-add, count_by, length-append}
 use Rattle.std.specs.Prelude.{◌&&◌, nat_lt}
 use Rattle.std.specs.List.{range_with_len}
-use Rattle.std.proofs.lemmas.List.Sums.{sum_by-cons}
 use Rattle.zn_truth.specs.World.{World}
 use Rattle.zn_model.specs.ZoneFiles.{files_of}
 use Rattle.zn_model.specs.Volume.{Inodes, Request, file_at, writers_of}
 use Rattle.zn_handle.specs.HandleState as handles
+use Rattle.zn_inode.proofs.Counts.{count_cons, count_alike}
 use Rattle.zn_volume.specs.VolumeState.{Agrees}
-
-count_cons : (p : ℕ → Bool) (a : ℕ) (xs : List ℕ) → count_by p (a ∷ xs) ≡ cond (p a) 1 0 + count_by p xs
-count_cons p a xs = sum_by-cons (λ n. cond (p n) 1 0) a xs
-
--- a count over a range, of what two tests agree on
-count_alike : (p q : ℕ → Bool) (a n : ℕ) → ((i : ℕ) → i < n → p (a + i) ≡ q (a + i)) → count_by p (range_with_len a n) ≡ count_by q (range_with_len a n)
-count_alike p q a zero h = refl
-count_alike p q a (suc n) h =
-    let head : p a ≡ q a = subst (λ (z : ℕ). p z ≡ q z) (add-zero a) (h 0 (omega arith)) in
-    let rest = count_alike p q (a + 1) n (λ i below. let e : a + (i + 1) ≡ a + 1 + i = omega arith in subst (λ (z : ℕ). p z ≡ q z) e (h (i + 1) (omega arith))) in
-    count_cons p a (range_with_len (a + 1) n) ∙ ap (λ (b : Bool). cond b 1 0 + count_by p (range_with_len (a + 1) n)) head
-    ∙ ap (λ (k : ℕ). cond (q a) 1 0 + k) rest ∙ sym (count_cons q a (range_with_len (a + 1) n))
 
 count_none : (a n : ℕ) → count_by (λ k. false) (range_with_len a n) ≡ 0
 count_none a zero = refl
@@ -60,15 +48,3 @@ wro_alike w inodes seen queued infos scratch agrees =
     let moved : count_by p (range_with_len (0 + seen.cnv) (n - seen.cnv)) ≡ count_by p (range_with_len seen.cnv (n - seen.cnv)) = ap (λ (k : ℕ). count_by p (range_with_len k (n - seen.cnv))) at in
     let known : count_by q (range_with_len seen.cnv (seen.files - seen.cnv)) ≡ count_by q (range_with_len seen.cnv (n - seen.cnv)) = ap (λ (k : ℕ). count_by q (range_with_len seen.cnv (k - seen.cnv))) agrees.known in
     omega (arith, first, rest, split, moved, known)
-
--- a count of one number more
-count_more : (p : ℕ → Bool) (n : ℕ) → count_by p (range_with_len 0 (n + 1)) ≡ count_by p (range_with_len 0 n) + cond (p n) 1 0
-count_more p n =
-    subst (λ (k : ℕ). count_by p (range_with_len 0 (n + 1)) ≡ count_by p (range_with_len 0 n) + cond (p k) 1 0) (zero-add n)
-    (omega (arith, count_split p 0 n 1, count_cons p (0 + n) []))
-
-pub one_counted : (p : ℕ → Bool) (n : ℕ) → p n ≡ true → count_by p (range_with_len 0 (n + 1)) ≡ count_by p (range_with_len 0 n) + 1
-one_counted p n is = count_more p n ∙ ap (λ (b : Bool). count_by p (range_with_len 0 n) + cond b 1 0) is
-
-pub none_counted : (p : ℕ → Bool) (n : ℕ) → p n ≡ false → count_by p (range_with_len 0 (n + 1)) ≡ count_by p (range_with_len 0 n)
-none_counted p n is = count_more p n ∙ ap (λ (b : Bool). count_by p (range_with_len 0 n) + cond b 1 0) is ∙ add-zero _

@@ -5,10 +5,9 @@ ghost use Rattle.zn_truth.specs.World.{geometry_of};
 ghost use Rattle.zn_model.specs.declared.limits.TheConstants.{MAX_HANDLES};
 ghost use Rattle.zn_model.specs.declared.answers.Refusal.TheVariants.{IoError};
 ghost use Rattle.zn_model.specs.ZoneFiles.{files_of, listing_of};
-ghost use Rattle.zn_model.specs.Looks.{stat_call, entries_call, attr_call, is_shown_active as is_counted_active, shown_active as count_of_active, file_stat, directory_stat, mode_of as shown_mode, change_refusal};
+ghost use Rattle.zn_model.specs.Looks.{stat_call, entries_call, attr_call, file_stat, directory_stat, mode_of as shown_mode, change_refusal};
 ghost use Rattle.zn_model.specs.Looks.{all_infos, report_call, place_in};
 ghost use Rattle.zn_model.specs.Access.{unwritable as without_write};
-ghost use Rattle.zn_model.specs.Volume.{file_at, shown_at};
 ghost use Rattle.zn_volume.specs.Refusals.{IsRefusedBy, stat_refusal, entries_refusal, attr_refusal};
 ghost use Rattle.zn_volume.specs.Causes.{CallCause};
 ghost use Rattle.zn_volume.specs.Means.{spoils};
@@ -128,34 +127,8 @@ impl<D: Zoned + Drop> Volume<D> {
             max_wro: shape.max_open,
             nr_wro: self.wro(),
             max_active: shape.max_active,
-            nr_active: self.shown_active(),
+            nr_active: self.inodes.active(),
         })
-    }
-
-    /// Whether a file is sequential, may be written, and is held open or shown partly full.
-    fn is_shown_active(&self, f: u32) -> bool
-        requires { f < length (files_of self.now.volume.inodes.layout) }
-        ensures { let inodes = self.now.volume.inodes in
-            result ≡ is_counted_active inodes.shape (file_at inodes f) (shown_at inodes f) }
-    {
-        let shown = self.inodes.shown(f);
-        self.inodes.file(f).seq
-            && shown.may_write
-            && (shown.held_open || 0 < shown.size && shown.size < self.capacity(f))
-    }
-
-    /// How many files are so.
-    #[tactic(auto, using(crate::proofs::Counting::one_counted, crate::proofs::Counting::none_counted))]
-    fn shown_active(&self) -> u32
-        ensures { result ≡ count_of_active self.now.volume.inodes }
-    {
-        let mut active = 0;
-        for f in 0..self.inodes.files() {
-            if self.is_shown_active(f) {
-                active += 1;
-            }
-        }
-        active
     }
 
     /// Tells what each zone is, by one report of all zones. It takes no memory, and no recovery follows its failure.
