@@ -234,8 +234,7 @@ impl Store {
 fn fill_part(buffer: &mut Vec<u8>, from: usize, to: usize, byte: u8)
     requires order { from ≤ to }
     requires within { to ≤ length buffer.old.items }
-    ensures bytes {
-        buffer.new.items ≡ take from buffer.old.items ++ replicate (to - from) byte ++ drop to buffer.old.items }
+    ensures bytes { buffer.new.items ≡ take from buffer.old.items ++ replicate (to - from) byte ++ drop to buffer.old.items }
     ensures room { vec_capacity buffer.new ≡ vec_capacity buffer.old }
 {
     buffer[from..to].fill(byte);
