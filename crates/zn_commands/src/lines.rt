@@ -19,6 +19,10 @@ fn end_by<K: Sink>(sink: &mut K, parts: &[Part<'_>], status: Status) -> Status
     ensures { Closed result status (text_of parts.now) (K.state sink.old) (K.state sink.new) }
 {
     match write_parts(sink, parts) {
+        Ok(()) => {}
+        Err(_) => return Status::WriteFault,
+    }
+    match sink.flush() {
         Ok(()) => status,
         Err(_) => Status::WriteFault,
     }

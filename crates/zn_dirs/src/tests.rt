@@ -10,11 +10,12 @@ use std::process::Abort;
 use std::test::Fail;
 use zn_backing::OpenError;
 use zn_base::memory::MemSink;
-use zn_base::{Part, write_parts, write_runs};
+use zn_base::{Part, write_parts};
 use zn_device::{Injects, Zoned};
 use zn_fault::Faulty;
 use zn_files::{FileCall, Files, MemFiles, Text};
 use zn_host::HostFiles;
+use zn_runs::write_runs;
 use zn_stand::Geometry;
 use zn_truth::{
     Cond, Cuts, DevError, InjectError, Kind, LossSpec, Shape, ZoneInfo, ZoneNo, ZoneOp,
@@ -271,7 +272,7 @@ fn show_zone<D: Zoned>(
         Part::Text(b" "),
     ];
     assert!(rt; write_parts(sink, &parts).is_ok());
-    assert!(rt; write_runs(sink, &bytes).is_ok());
+    assert!(rt; write_runs(sink, &bytes, &mut [0; 64]).is_ok());
     assert!(rt; write_parts(sink, &[Part::Text(b"\n")]).is_ok());
     Ok(())
 }
