@@ -1,11 +1,8 @@
 -- Bytes in place of some.
-use Rattle.std.proofs.Common.{◌≡◌, ℕ, ◌+◌, ◌-◌, ◌*◌, ◌<◌, ◌≤◌, min, Bool, true, false, cond, List, [], ◌∷◌, ◌++◌, length, take, drop, replicate, get_or, Option, Some, None, arith, refl, sym, ap, ◌∙◌, ⊎_elim, append_assoc}
-use Rattle.std.proofs.Math.Seq.{take-append-add, take-add}
-use Rattle.std.proofs.lemmas.Bool.{cases_lt}
-use Rattle.std.proofs.lemmas.List.{length-append, length-take, length-take-le, length-drop, length-replicate, take-take, take_all, take_at, drop_at, drop_all, drop_more, drop-drop, drop-take, take-replicate, take-append-le, take-append-drop, append-nil, nil_from_length}
-use Rattle.zn_truth.specs.Orders.{replaced}
-use Rattle.zn_truth.specs.Power.{with_filled_blocks, with_fill_unflushed}
-use Rattle.zn_truth.proofs.SoundLoss.{length-with_filled_blocks}
+use Rattle.std.proofs.Common.{◌≡◌, ℕ, ◌+◌, ◌-◌, ◌*◌, ◌<◌, ◌≤◌, min, Bool, true, false, cond, List, ◌++◌, length, take, drop, replicate, get_or, arith, sym, ap, ◌∙◌, append_assoc}
+use Rattle.std.proofs.Math.Seq.{take-add}
+use Rattle.std.proofs.lemmas.List.{length-append, length-take-le, length-drop, length-replicate, take_at, drop_at, drop_all, drop_more, drop-drop, take-append-drop}
+use Rattle.zn_truth.specs.Power.{with_filled_blocks}
 
 -- ---- a byte in place of each of some blocks
 

@@ -66,11 +66,11 @@ changed_from p q a (suc n) zero below h =
 changed_from p q a (suc n) (suc k) below h =
     let here : a + 1 + k ≡ a + suc k = omega arith in
     let head : p a ≡ q a = subst (λ (z : ℕ). p z ≡ q z) (add-zero a) (h 0 (omega arith) (omega arith)) in
-    let same : cond (p a) 1 0 ≡ cond (q a) 1 0 = ap (λ (b : Bool). let n : ℕ = cond b 1 0 in n) head in
     let rest : count_by q (range_with_len (a + 1) n) + cond (p (a + 1 + k)) 1 0 ≡ count_by p (range_with_len (a + 1) n) + cond (q (a + 1 + k)) 1 0 =
     changed_from p q (a + 1) n k (omega arith) (λ i inside apart. let e : a + (i + 1) ≡ a + 1 + i = omega arith in subst (λ (z : ℕ). p z ≡ q z) e (h (i + 1) (omega arith) (omega arith))) in
     let moved : count_by q (range_with_len (a + 1) n) + cond (p (a + suc k)) 1 0 ≡ count_by p (range_with_len (a + 1) n) + cond (q (a + suc k)) 1 0 =
     subst (λ (z : ℕ). count_by q (range_with_len (a + 1) n) + cond (p z) 1 0 ≡ count_by p (range_with_len (a + 1) n) + cond (q z) 1 0) here rest in
+    let same : cond {A = ℕ} (p a) 1 0 ≡ cond {A = ℕ} (q a) 1 0 = ap (λ (b : Bool). let n : ℕ = cond b 1 0 in n) head in
     omega (arith, same, moved, count_cons p a (range_with_len (a + 1) n), count_cons q a (range_with_len (a + 1) n))
 
 -- where two tests agree on all numbers but one, their counts differ as they do there

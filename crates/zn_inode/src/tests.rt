@@ -42,6 +42,31 @@ fn two_files(alloc: Global) -> Result<Layout, AllocError>
     Ok(layout)
 }
 
+/// Zones 1 to 3 are a file of `cnv`, and zones 4 and 6 are two of `seq`.
+fn three_files(alloc: Global) -> Result<Layout, AllocError>
+    ensures { IfOk result (λ layout. layout ≡
+        with_file (with_file (with_file no_files (record { first = 1; zones = 3; seq = false }))
+        (record { first = 4; zones = 1; seq = true })) (record { first = 6; zones = 1; seq = true })) }
+{
+    let mut layout = Layout::new(alloc);
+    layout.add(FileZones {
+        first: 1,
+        zones: 3,
+        seq: false,
+    })?;
+    layout.add(FileZones {
+        first: 4,
+        zones: 1,
+        seq: true,
+    })?;
+    layout.add(FileZones {
+        first: 6,
+        zones: 1,
+        seq: true,
+    })?;
+    Ok(layout)
+}
+
 /// Size, rights, and whether it is held open.
 fn showing(shown: Shown) -> (u64, bool, bool, bool) {
     (shown.size, shown.may_read, shown.may_write, shown.held_open)
@@ -88,6 +113,98 @@ fn places(rt: HostRuntime) -> Result<(), Fail> {
     for (z, place) in (0..).zip(want) {
         assert_eq!(rt; inodes.place(ZoneNo(z)), place, "of zone {z}");
     }
+    Ok(())
+}
+
+// A run of three zones, zones of no file, and zones behind the last.
+#[test]
+fn places_in_a_run(rt: HostRuntime) -> Result<(), Fail> {
+    let infos = [zone(Cond::Good, 1); 8];
+    let inodes = Inodes::new(rt.alloc(), three_files(rt.alloc())?, &infos, SHAPE)?;
+    let want = [
+        Place::Super,
+        Place::Cnv(0),
+        Place::Cnv(0),
+        Place::Cnv(0),
+        Place::Seq(0),
+        Place::Unplaced,
+        Place::Seq(1),
+        Place::Unplaced,
+        Place::Unplaced,
+    ];
+    for (z, place) in (0..).zip(want) {
+        assert_eq!(rt; inodes.place(ZoneNo(z)), place, "of zone {z}");
+    }
+    assert_eq!(rt; inodes.place(ZoneNo(u32::MAX)), Place::Unplaced);
+    Ok(())
+}
+
+#[test]
+fn places_without_zones(rt: HostRuntime) -> Result<(), Fail> {
+    let inodes = Inodes::new(rt.alloc(), Layout::new(rt.alloc()), &[], SHAPE)?;
+    assert_eq!(rt; inodes.place(ZoneNo(0)), Place::Super);
+    assert_eq!(rt; inodes.place(ZoneNo(1)), Place::Unplaced);
+    assert_eq!(rt; inodes.active(), 0);
+    Ok(())
+}
+
+// Two sequential files, of which each has room for two blocks: the first is held open, partly full, full and read-only,
+// while the second is partly full. The conventional file, which is partly full, never counts.
+#[test]
+fn active_files(rt: HostRuntime) -> Result<(), Fail> {
+    let mut inodes = Inodes::new(
+        rt.alloc(),
+        three_files(rt.alloc())?,
+        &[zone(Cond::Good, 1); 8],
+        SHAPE,
+    )?;
+    assert_eq!(rt; inodes.active(), 2);
+    for (size, may_write, held_open, want) in [
+        (0, true, false, 1),
+        (0, true, true, 2),
+        (4096, true, false, 2),
+        (4096, true, true, 2),
+        (8191, true, false, 2),
+        (8192, true, false, 1),
+        (8192, true, true, 2),
+        (4096, false, false, 1),
+        (4096, false, true, 1),
+    ] {
+        assert_eq!(rt; inodes.files(), 3);
+        inodes.set(
+            1,
+            Shown {
+                size,
+                may_read: true,
+                may_write,
+                held_open,
+            },
+        );
+        assert_eq!(rt;
+            inodes.active(),
+            want,
+            "at {size}, {may_write}, {held_open}"
+        );
+    }
+    assert_eq!(rt; inodes.files(), 3);
+    inodes.recover(1, Policy::Repair, Cond::Good, 1);
+    assert_eq!(rt; inodes.active(), 2);
+    assert_eq!(rt; inodes.files(), 3);
+    inodes.recover(2, Policy::ZoneRo, Cond::Good, 1);
+    assert_eq!(rt; inodes.active(), 1);
+    Ok(())
+}
+
+// A mount counts anew: one of two sequential files holds a block, and the other is full.
+#[test]
+fn active_after_a_mount(rt: HostRuntime) -> Result<(), Fail> {
+    let mut infos = [zone(Cond::Good, 2); 8];
+    let mut inodes = Inodes::new(rt.alloc(), three_files(rt.alloc())?, &infos, SHAPE)?;
+    assert_eq!(rt; inodes.active(), 0);
+    infos[6] = zone(Cond::Good, 1);
+    assert_eq!(rt; inodes.files(), 3);
+    inodes.mount(&infos);
+    assert_eq!(rt; inodes.active(), 1);
     Ok(())
 }
 
