@@ -1,6 +1,5 @@
 // The last line of a command on a directory.
 ghost use Rattle.std.specs.Prelude.{◌≡◌, ◌≢◌};
-ghost use Rattle.zn_base.specs.Parts.{text_of};
 ghost use Rattle.zn_model.specs.ZoneTexts.{cond_name};
 ghost use Rattle.zn_lines.specs.ReplyTexts.{error_text};
 ghost use Rattle.zn_run.specs.Headline.{Closed};
@@ -9,24 +8,10 @@ ghost use Rattle.zn_commands.specs.Lines.{cause_name, open_status, open_line, ad
 ghost use Rattle.zn_commands.specs.Lines.{format_status, format_line};
 
 use zn_backing::{CreateError, OpenError, zone_name};
-use zn_base::{Part, Sink, write_parts};
+use zn_base::{Part, Sink};
 use zn_model::FormatError;
-use zn_run::{Status, end_broken, end_starved};
+use zn_run::{Status, end_broken, end_by, end_starved};
 use zn_truth::{Cond, Kind, ZoneNo};
-
-/// Ends a command by a line of these parts and this status.
-fn end_by<K: Sink>(sink: &mut K, parts: &[Part<'_>], status: Status) -> Status
-    ensures { Closed result status (text_of parts.now) (K.state sink.old) (K.state sink.new) }
-{
-    match write_parts(sink, parts) {
-        Ok(()) => {}
-        Err(_) => return Status::WriteFault,
-    }
-    match sink.flush() {
-        Ok(()) => status,
-        Err(_) => Status::WriteFault,
-    }
-}
 
 /// Ends a command whose directory has no file of this zone.
 fn end_missing<K: Sink>(sink: &mut K, kind: Kind, z: ZoneNo) -> Status

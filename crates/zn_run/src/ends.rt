@@ -1,5 +1,6 @@
 // The last line of a run.
 ghost use Rattle.std.specs.Prelude.{ℕ, List, []};
+ghost use Rattle.zn_base.specs.Parts.{text_of};
 ghost use Rattle.zn_base.specs.States.{SinkState, Writes};
 ghost use Rattle.zn_lines.specs.Transcript.{last_line};
 ghost use Rattle.zn_run.specs.Endings.{out_of_memory, host_fault};
@@ -65,6 +66,14 @@ pub fn end_with<K: Sink>(sink: &mut K, line: &[u8], status: Status) -> Status
     ensures { Closed result status line.now (K.state sink.old) (K.state sink.new) }
 {
     let written = write_all(sink, line);
+    pass_on(sink, written, status)
+}
+
+/// Ends a run by a last line of these parts and this status.
+pub fn end_by<K: Sink>(sink: &mut K, parts: &[Part<'_>], status: Status) -> Status
+    ensures { Closed result status (text_of parts.now) (K.state sink.old) (K.state sink.new) }
+{
+    let written = write_parts(sink, parts);
     pass_on(sink, written, status)
 }
 

@@ -9,7 +9,7 @@ mod runs;
 mod script;
 mod status;
 
-pub use ends::{end_broken, end_starved, end_with};
+pub use ends::{end_broken, end_by, end_by_script, end_starved, end_with};
 pub use machine::{Machine, Step};
 pub use runs::run;
 pub use status::Status;
