@@ -2,6 +2,7 @@ pub mod Times
 pub mod Ranges
 pub mod ChainLaws
 pub mod BlockBytes
+pub mod Padding
 pub mod Parts
 pub mod KeptLaws
 pub mod Moves

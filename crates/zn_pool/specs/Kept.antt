@@ -5,7 +5,7 @@ use Rattle.std.specs.List.Sorted.{IsPermutation}
 use Rattle.zn_truth.specs.declared.limits.TheConstants.{BLOCK_SIZE}
 use Rattle.zn_pool.specs.declared.pool.Pool.TheInside.{Inside}
 use Rattle.zn_pool.specs.PoolState.{PoolState, LeaseState, leased}
-use Rattle.zn_pool.specs.Chains.{chain, chain_bytes}
+use Rattle.zn_pool.specs.Chains.{chain, chain_bytes, padded, IsRegion}
 
 -- the lease of so many blocks from one on; where they are none, there is no lease
 abbrev pub lease_of : List ℕ → List ℕ → ℕ → ℕ → Option LeaseState
@@ -24,7 +24,7 @@ pool_of region links counts head free = record { free = chain links head free; l
 
 -- what contracts see of the fields
 abbrev pub seen_of : Inside → PoolState
-seen_of a = pool_of a.region.items a.links.items a.counts.items a.head a.free
+seen_of a = pool_of (padded (length a.links.items) a.region.items) a.links.items a.counts.items a.head a.free
 
 -- There are as many links and counts as blocks in the region, and the free blocks and those of the leases are
 -- all blocks, each once.
@@ -34,6 +34,7 @@ pub record AreKept (region links counts : List ℕ) (head free : ℕ) : Type 0 w
   pub few : length counts < 2 ^ 32
   pub parted : IsPermutation (range_with_len 0 (length counts)) (chain links head free ++ leased (pool_of region links counts head free))
 
--- so it is with the fields
-abbrev pub IsKept : Inside → Type 0
-IsKept a = AreKept a.region.items a.links.items a.counts.items a.head a.free
+-- so it is with the fields, where the region counts as long as all blocks
+pub record IsKept (a : Inside) : Type 0 where
+  pub region : IsRegion (length a.links.items) a.region
+  pub fields : AreKept (padded (length a.links.items) a.region.items) a.links.items a.counts.items a.head a.free

@@ -19,7 +19,8 @@ pub struct Lease {
 /// ones. Only `new` takes memory.
 #[derive(Drop)]
 pub struct Pool {
-    // The bytes of all blocks, one after another.
+    // The bytes of the blocks from the first on, one after another. Those of the blocks behind its end are zeros. It has
+    // the room for all of them from the start.
     region: Vec<u8>,
     // For each block, the next one of its chain. The link of a chain's last block means nothing.
     links: Vec<u32>,
@@ -58,7 +59,7 @@ impl Pool {
         ensures { IfOk result (λ pool. pool ≡ all_free blocks) }
     {
         Ok(Pool {
-            region: vec![in alloc; 0; BLOCK_SIZE * blocks as usize]?,
+            region: Vec::with_capacity(alloc, BLOCK_SIZE * blocks as usize)?,
             links: links_in_order(alloc, blocks)?,
             counts: vec![in alloc; 0; blocks as usize]?,
             head: 0,

@@ -101,3 +101,19 @@ fn blocks_apart(rt: HostRuntime) -> Result<(), Fail> {
     assert_eq!(rt; pool.free(), 1);
     Ok(())
 }
+
+// A block that was taken and never filled holds zeros, before a later block is filled and after, and the last one too.
+#[test]
+fn never_filled(rt: HostRuntime) -> Result<(), Fail> {
+    let alloc = rt.alloc();
+    let mut pool = Pool::new(alloc, 4)?;
+    let first = pool.take(2).expect(&rt, "four are free");
+    let second = pool.take(1).expect(&rt, "two are free");
+    let last = pool.take(1).expect(&rt, "one is free");
+    assert_holds(&rt, alloc, &pool, &first, 0)?;
+    fill(&rt, alloc, &mut pool, &second, 3)?;
+    assert_holds(&rt, alloc, &pool, &first, 0)?;
+    assert_holds(&rt, alloc, &pool, &second, 3)?;
+    assert_holds(&rt, alloc, &pool, &last, 0)?;
+    Ok(())
+}

@@ -1,5 +1,6 @@
 use Rattle.std.proofs.Common.{length, sym, ap, ◌∙◌, subst}
 use Rattle.zn_pool.specs.PoolState.{IsParted}
+use Rattle.zn_pool.specs.Chains.{padded}
 use Rattle.zn_pool.proofs.ChainLaws.{length-chain}
 use Rattle.zn_pool.proofs.Moves.{is_parted}
 use Rattle.zn_pool.proofs.pool.Pool.free.Goals as goal
@@ -12,4 +13,4 @@ returns-clause-count c =
 pub returns-clause-parted : goal.returns-clause-parted
 returns-clause-parted c =
     let a = c.self.inside in
-    subst IsParted c.self.view_is (is_parted a.region.items a.links.items a.counts.items a.head a.free c.self.invariant)
+    subst IsParted c.self.view_is (is_parted (padded (length a.links.items) a.region.items) a.links.items a.counts.items a.head a.free c.self.invariant.fields)
