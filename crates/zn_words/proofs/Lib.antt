@@ -7,6 +7,7 @@ pub mod Defaults
 pub mod Placing
 pub mod PlainValues
 pub mod ScratchWords
+pub mod ChurnWords
 pub mod KeyWords
 pub mod Features
 pub mod Standing

@@ -83,7 +83,8 @@ values_taken = three_words (λ words. takes scratch_app words ≡ true) three_ta
 values_placed : (words : List Text) → are_values 3 words ≡ true → first_texts (matches_of scratch_app words) ≡ map Some words
 values_placed = three_words (λ words. first_texts (matches_of scratch_app words) ≡ map Some words) three_placed
 
-same_found : (matches : ArgMatches) (places : List Text) → map (λ place. first_value (found_of matches) place) places ≡ map (λ place. first_of place (rows_of (found_of matches))) places
+-- what is found of an id is the text of its row
+pub same_found : (matches : ArgMatches) (places : List Text) → map (λ place. first_value (found_of matches) place) places ≡ map (λ place. first_of place (rows_of (found_of matches))) places
 same_found matches [] = refl
 same_found matches (place ∷ places) = ap₂ (λ (x : Option Text) (xs : List (Option Text)). x ∷ xs) (first_value-rows (found_of matches) place) (same_found matches places)
 

@@ -1,5 +1,5 @@
 -- What the words of a command line ask for. (own)
-use Rattle.std.specs.Prelude.{ℕ, ◌&&◌, Bool, true, false, nat_le, List, [], ◌∷◌, length, option_and_then, option_map, if◌then◌else◌, Option, Some, None, Result, Ok, Err, codes}
+use Rattle.std.specs.Prelude.{ℕ, ◌&&◌, ◌||◌, Bool, true, false, nat_le, List, [], ◌∷◌, length, option_and_then, option_map, if◌then◌else◌, Option, Some, None, Result, Ok, Err, codes}
 use Rattle.std.specs.List.{list_all}
 use Rattle.std.specs.Str.{bytes_eq}
 use Rattle.uuid.specs.Text.{parsed}
@@ -11,7 +11,9 @@ use Rattle.zn_lines.specs.declared.words.Scratch.{Scratch as ScratchWords}
 use Rattle.zn_lines.specs.Scratch.{command_of as scratch_in}
 use Rattle.zn_stand.specs.declared.numbers.Geometry.{Geometry}
 use Rattle.zn_keys.specs.Keys.{◌>>=◌, geometry_asked}
+use Rattle.zn_words.specs.Churning.{churn_of}
 use Rattle.zn_words.specs.Parts.{Given, given_in, is_value}
+use Rattle.zn_words.specs.declared.churning.Churn.{Churn as ChurnWords}
 use Rattle.zn_words.specs.declared.commands.TheConstants.{MOST_OPTIONS}
 use Rattle.zn_words.specs.declared.flags.Flag.{Flag}
 use Rattle.zn_words.specs.declared.flags.Flag.TheVariants.{Force, Label, Uuid, Options}
@@ -23,10 +25,12 @@ pub record Format : Type 0 where
   pub uuid : Option (List ℕ)
   pub opts : FormatOpts
 
--- what is asked for; the first text of a command is the directory that it works on
+-- what is asked for; the first text of a command is the directory that it works on, and one without a text has none
 pub data Command : Type 0 where
   -- a script is run on a new device in memory
   Scratch : ScratchWords → Command
+  -- the lines of a script are made from a seed
+  Churn : ChurnWords → Command
   -- a device is made in an empty directory
   Add : List ℕ → Geometry → Command
   -- the device in a directory is formatted
@@ -124,6 +128,10 @@ run_of words = option_and_then run_by (given_in run_flags words)
 abbrev pub in_memory : Option ScratchWords → Option Command
 in_memory asked = option_map Scratch asked
 
+-- the lines of a script, if they are asked for
+abbrev pub from_seed : Option ChurnWords → Option Command
+from_seed asked = option_map Churn asked
+
 -- The command that words are: the first word names it.
 unfoldable pub command_of : List (List ℕ) → Option Command
 command_of [] = None
@@ -131,19 +139,21 @@ command_of (name ∷ words) =
     if bytes_eq name (codes "add") then add_of words else
     if bytes_eq name (codes "mkfs") then mkfs_of words else
     if bytes_eq name (codes "run") then run_of words else
+    if bytes_eq name (codes "churn") then from_seed (churn_of words) else
     in_memory (scratch_in (name ∷ words))
 
 -- the directory that a command works on
 abbrev pub dir_in : Command → Option (List ℕ)
 dir_in (Scratch s) = None
+dir_in (Churn c) = None
 dir_in (Add dir geo) = Some dir
 dir_in (Mkfs dir format) = Some dir
 dir_in (Running dir options) = Some dir
 
--- whether the first word names the command that works on no directory
+-- whether the first word names a command that works on no directory
 abbrev pub is_in_memory : List (List ℕ) → Bool
 is_in_memory [] = false
-is_in_memory (name ∷ words) = bytes_eq name (codes "scratch")
+is_in_memory (name ∷ words) = bytes_eq name (codes "scratch") || bytes_eq name (codes "churn")
 
 -- the directory that words name, where they are a command on one
 abbrev pub dir_asked : List (List ℕ) → Option (List ℕ)

@@ -6,4 +6,5 @@ pub mod Placed
 pub mod Commands
 pub mod CommandsMeant
 pub mod Scratch
+pub mod Churning
 pub mod KeyPlaces

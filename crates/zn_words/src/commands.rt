@@ -1,9 +1,11 @@
 // What the words of a command line ask for.
 ghost use Rattle.std.specs.Prelude.{◌≡◌, IfOk, IfSome, IsSome, OnErr, map, option_map, string_bytes};
-ghost use Rattle.zn_words.specs.Commands.{command_of, dir_asked, dir_in, in_memory, is_in_memory};
+ghost use Rattle.zn_words.specs.Churning.{churn_of};
+ghost use Rattle.zn_words.specs.Commands.{command_of, dir_asked, dir_in, from_seed, in_memory, is_in_memory};
 ghost use Rattle.zn_words.specs.CommandsMeant.{IsAccepted, command_meant};
 ghost use Rattle.zn_words.specs.Scratch.{scratch_of};
 
+use crate::churning::{self, Churn};
 use crate::{adding, formatting, running, scratch as in_memory};
 use std::alloc::{AllocError, Global};
 use zn_files::Text;
@@ -25,11 +27,14 @@ pub struct Format {
     pub opts: FormatOpts,
 }
 
-/// What a command line asks for. The first text of a command is the directory that it works on.
+/// What a command line asks for. The first text of a command is the directory that it works on, and one without a text
+/// has none.
 #[derive(Clone, Copy, Debug, PartialEq, Eq)]
 pub enum Command<'a> {
     /// A script is run on a new device in memory.
     Scratch(Scratch),
+    /// The lines of a script are made from a seed.
+    Churn(Churn),
     /// A device is made in an empty directory.
     Add(&'a str, Geometry),
     /// The device in a directory is formatted.
@@ -51,6 +56,19 @@ fn scratch<'a>(alloc: Global, words: &'a [String]) -> Result<Option<Command<'a>>
     }
 }
 
+/// The words of `churn` as a command.
+fn generated<'a>(alloc: Global, words: &'a [String]) -> Result<Option<Command<'a>>, AllocError>
+    ensures asked { IfOk result
+        (λ asked. option_map command_meant asked ≡ from_seed (churn_of (map string_bytes words.now))) }
+    ensures memory { OnErr result (IsSome (churn_of (map string_bytes words.now))) }
+    ensures within { IfOk result (λ asked. IfSome asked IsAccepted) }
+{
+    match churning::parse(alloc, words)? {
+        Some(churn) => Ok(Some(Command::Churn(churn))),
+        None => Ok(None),
+    }
+}
+
 /// What words ask for, if they are a command line. The first one names the command, and each command reads the others
 /// itself. Want of memory is told only of words that are a command line.
 #[tactic(auto, unfolding(crate::specs::Commands::command_of, zn_lines::specs::Scratch::command_of))]
@@ -67,6 +85,7 @@ pub fn parse<'a>(alloc: Global, words: &'a [String]) -> Result<Option<Command<'a
         "add" => adding::parse(alloc, words),
         "mkfs" => formatting::parse(alloc, words),
         "run" => running::parse(alloc, words),
+        "churn" => generated(alloc, words),
         _ => Ok(None),
     }
 }
@@ -76,17 +95,17 @@ fn dir_in<'a>(command: &Command<'a>) -> Option<&'a str>
     ensures { option_map (λ s. s.now) result ≡ dir_in (command_meant command.now) }
 {
     match command {
-        Command::Scratch(_) => None,
+        Command::Scratch(_) | Command::Churn(_) => None,
         Command::Add(dir, _) | Command::Mkfs(dir, _) | Command::Run(dir, _) => Some(*dir),
     }
 }
 
-/// Whether the first word is that of the command that works on no directory.
+/// Whether the first word is that of a command that works on no directory.
 fn is_in_memory(words: &[String]) -> bool
     ensures { result ≡ is_in_memory (map string_bytes words.now) }
 {
     match words {
-        [name, ..] => name.as_str() == "scratch",
+        [name, ..] => name.as_str() == "scratch" || name.as_str() == "churn",
         [] => false,
     }
 }

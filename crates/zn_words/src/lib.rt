@@ -2,6 +2,7 @@
 #![tactic(auto)]
 
 mod adding;
+mod churning;
 mod commands;
 mod flags;
 mod formatting;
@@ -11,6 +12,7 @@ mod running;
 mod scratch;
 mod values;
 
+pub use churning::Churn;
 pub use commands::{Command, Format, MOST_OPTIONS, dir_of, parse};
 
 #[cfg(test)]

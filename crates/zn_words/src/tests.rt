@@ -1,4 +1,4 @@
-use crate::{Command, Format, dir_of, parse};
+use crate::{Churn, Command, Format, dir_of, parse};
 use std::alloc::Global;
 use std::process::Abort;
 use std::test::Fail;
@@ -10,7 +10,7 @@ use zn_truth::Shape;
 
 /// Words that are no command line, with a blank between two of them: two blanks together have an empty word between
 /// them.
-const REFUSED: [&str; 131] = [
+const REFUSED: [&str; 149] = [
     "scratch",
     "scratch 4",
     "scratch 4 1",
@@ -76,8 +76,27 @@ const REFUSED: [&str; 131] = [
     "scratsch 4 1 2",
     "Scratch 4 1 2",
     "zonefs scratch 4 1 2",
+    // Seeds and steps.
+    "churn",
+    "churn 1",
+    "churn 1 2 3",
+    "churn 18446744073709551616 1",
+    "churn 1 1000001",
+    "churn 1 18446744073709551616",
+    "churn 01 1",
+    "churn 1 00",
+    "churn 1 -1",
+    "churn -1 1",
+    "churn +1 1",
+    "churn 1 0x1",
+    "churn  1",
+    "churn 1 ",
+    "churn -- 1",
+    "churn 1 --help",
+    "churn -h",
     // Other first words.
-    "churn 1 2",
+    "churns 1 2",
+    "Churn 1 2",
     "Run D",
     "run-D",
     "runs D",
@@ -198,6 +217,16 @@ fn is_scratch(rt: &impl Abort, alloc: Global, text: &str, asked: Scratch) -> Res
     names_dir(rt, alloc, &words, None)
 }
 
+/// Words ask for the lines of this script.
+fn is_churn(rt: &impl Abort, alloc: Global, text: &str, asked: Churn) -> Result<(), Fail> {
+    let words = words_of(alloc, text)?;
+    match parse(alloc, &words) {
+        Ok(Some(Command::Churn(churn))) => assert_eq!(rt; churn, asked, "{text}"),
+        _ => panic!(rt; "{text}"),
+    }
+    names_dir(rt, alloc, &words, None)
+}
+
 /// Words add this device in the directory `D`.
 fn is_add(rt: &impl Abort, alloc: Global, text: &str, asked: Geometry) -> Result<(), Fail> {
     let words = words_of(alloc, text)?;
@@ -262,6 +291,18 @@ fn devices_in_memory_are_asked_for(rt: HostRuntime) -> Result<(), Fail> {
             blocks,
         };
         is_scratch(&rt, rt.alloc(), text, scratch)?;
+    }
+    Ok(())
+}
+
+#[test]
+fn lines_are_made_from_seeds(rt: HostRuntime) -> Result<(), Fail> {
+    for (text, seed, steps) in [
+        ("churn 1 0", 1, 0),
+        ("churn 0 7", 0, 7),
+        ("churn 18446744073709551615 1000000", u64::MAX, 1_000_000),
+    ] {
+        is_churn(&rt, rt.alloc(), text, Churn { seed, steps })?;
     }
     Ok(())
 }
