@@ -37,7 +37,7 @@ folded_told : (table : Table) (lines : List Line) → table.world.truth.told ≡
 folded_told table [] told = told
 folded_told table (line ∷ lines) told = folded_told (after_line table line) lines (line_still [] table line ∙ told)
 
-scratch_told : (s : Asked) (entropy : List ℕ) → (scratch_table s entropy).world.truth.told ≡ true
+pub scratch_told : (s : Asked) (entropy : List ℕ) → (scratch_table s entropy).world.truth.told ≡ true
 scratch_told s entropy =
     ap (λ (t : Table). t.world.truth.told) (scratch_is s entropy) ∙ folded_told (scratch_begun s entropy) scratch_lines (begun_told s entropy)
 
@@ -172,6 +172,7 @@ scratch_accepted {s = s} {entropy = entropy} {result = result} {old = old} {new 
   scratch = λ other script is told quiet.
       let C : Asked → Type 0 = λ s. IsComplete s entropy script result (streams_in old) (streams_in new) in
       subst C (cc is) (complete_by s entropy h.means script told quiet);
+  churn = λ c is. absurd (cc is);
   run = λ dir options is. absurd (cc is);
 }
 
@@ -180,13 +181,14 @@ pub run_accepted : {dir : List ℕ} {options : Option (List ℕ)} {entropy : Lis
     → AcceptedRuns (Some (Running dir options)) entropy result old new
 run_accepted {options = options} {entropy = entropy} {result = result} {old = old} {new = new} h = record {
   scratch = λ s script is. absurd (cc is);
+  churn = λ c is. absurd (cc is);
   run = λ other given is.
       let C : Option (List ℕ) → Type 0 = λ o. RunsWhole o entropy result old new in
       subst C (cc is) h;
 }
 
 pub add_accepted : {dir : List ℕ} {geo : Geometry} {entropy : List ℕ} {result : Status} {old new : Outside} → AcceptedRuns (Some (Add dir geo)) entropy result old new
-add_accepted = record { scratch = λ s script is. absurd (cc is); run = λ dir options is. absurd (cc is) }
+add_accepted = record { scratch = λ s script is. absurd (cc is); churn = λ c is. absurd (cc is); run = λ dir options is. absurd (cc is) }
 
 pub mkfs_accepted : {dir : List ℕ} {format : Format} {entropy : List ℕ} {result : Status} {old new : Outside} → AcceptedRuns (Some (Mkfs dir format)) entropy result old new
-mkfs_accepted = record { scratch = λ s script is. absurd (cc is); run = λ dir options is. absurd (cc is) }
+mkfs_accepted = record { scratch = λ s script is. absurd (cc is); churn = λ c is. absurd (cc is); run = λ dir options is. absurd (cc is) }

@@ -1,3 +1,4 @@
 pub mod KindLists
 pub mod Calls
 pub mod Beginning
+pub mod Churns

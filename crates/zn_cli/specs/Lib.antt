@@ -1,2 +1,3 @@
+pub mod Churn
 pub mod Scratch
 pub mod Top

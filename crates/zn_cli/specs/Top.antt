@@ -16,11 +16,13 @@ use Rattle.zn_run.specs.States.{MachineState, Streams, HasRisen, Added, run_of}
 use Rattle.zn_run.specs.Statuses.{status_of}
 use Rattle.zn_run.specs.declared.status.Status.{Status}
 use Rattle.zn_run.specs.declared.status.Status.TheVariants.{Done, Usage, Script, Directory, HostFault, ReadFault, WriteFault, Memory}
-use Rattle.zn_words.specs.Commands.{Command, Scratch, Add, Mkfs, Running, Format}
+use Rattle.zn_words.specs.Commands.{Command, Scratch, Churn, Add, Mkfs, Running, Format}
 use Rattle.zn_commands.specs.Outside.{Outside, IsQuiet, IsCountKept}
 use Rattle.zn_commands.specs.Adding.{Adds, AddCauses}
 use Rattle.zn_commands.specs.Formatting.{Formats, FormatCauses}
 use Rattle.zn_commands.specs.Running.{Runs, RunningCauses, RunsWhole}
+use Rattle.zn_words.specs.declared.churning.Churn.{Churn as Generated}
+use Rattle.zn_cli.specs.Churn.{OnSink, ChurnCauses, IsChurned}
 use Rattle.zn_cli.specs.Scratch.{scratch_machine}
 
 -- the last line of a call whose command line is bad
@@ -81,6 +83,7 @@ pub record OnDevice (format : Format) (entropy : List ℕ) (result : Status) (ol
 -- what a command does
 abbrev pub Does : Command → List ℕ → Status → Outside → Outside → Type 0
 Does (Scratch s) entropy result old new = OnStreams s entropy result old new
+Does (Churn c) entropy result old new = OnSink c entropy result old new
 Does (Add dir geo) entropy result old new = OnEmpty geo result old new
 Does (Mkfs dir format) entropy result old new = OnDevice format entropy result old new
 Does (Running dir options) entropy result old new = Runs options entropy result old new
@@ -120,6 +123,7 @@ pub record ScratchCauses (s : Asked) (entropy : List ℕ) (result : Status) (old
 -- when each status of a command comes
 abbrev pub CausesOf : Command → List ℕ → Status → Outside → Outside → Type 0
 CausesOf (Scratch s) entropy result old new = ScratchCauses s entropy result old new
+CausesOf (Churn c) entropy result old new = ChurnCauses c entropy result old new
 CausesOf (Add dir geo) entropy result old new = AddCauses geo result old.files new.files old.sink new.sink
 CausesOf (Mkfs dir format) entropy result old new =
     FormatCauses (asked_block format entropy) format.force result old.files new.files old.sink new.sink
@@ -141,9 +145,11 @@ IsComplete s entropy script result old new =
     ((result ≡ status_of t.ending) × Added (whole_text t) old.sink new.sink)
     ⊎ ((result ≡ Memory) × RanOut s entropy old new)
 
--- Accepted words and a source that tells its script: where no call failed, the run is complete.
+-- Accepted words, and for `scratch` and `run` a source that tells its script: where no call failed, the run is complete.
 pub record AcceptedRuns (asked : Option Command) (entropy : List ℕ) (result : Status) (old new : Outside) : Type 0 where
   pub scratch : (s : Asked) (script : List ℕ) → asked ≡ Some (Scratch s) → old.source.left ≡ Some script
       → IsQuiet old new → IsComplete s entropy script result (streams_in old) (streams_in new)
+  -- a script that is made needs no source
+  pub churn : (c : Generated) → asked ≡ Some (Churn c) → IsQuiet old new → IsChurned c entropy result old.sink new.sink
   pub run : (dir : List ℕ) (options : Option (List ℕ)) → asked ≡ Some (Running dir options)
       → RunsWhole options entropy result old new

@@ -1,6 +1,7 @@
 //! The command line of `zonefs`.
 #![tactic(auto)]
 
+mod churning;
 mod device;
 mod scratch;
 mod top;

@@ -18,7 +18,7 @@ use zn_script::{FormatWords, Line};
 use zn_session::Session;
 
 /// A device in memory never breaks, and its commands take no memory.
-fn never_breaks(session: &Session<Faulty<MemDevice>>)
+pub(crate) fn never_breaks(session: &Session<Faulty<MemDevice>>)
     ensures whole { session.now.held.device.breaks ≡ 0 }
     ensures memory { session.now.held.device.takes_memory ≡ false }
 {
@@ -50,7 +50,7 @@ fn begin(session: &mut Session<Faulty<MemDevice>>) -> bool
 }
 
 /// A session on a new device in memory, formatted and mounted, with `seq/0` open by number 0 where that is there.
-fn session(
+pub(crate) fn session(
     alloc: Global,
     scratch: Scratch,
     entropy: [u8; 16],

@@ -6,6 +6,7 @@ ghost use Rattle.zn_words.specs.CommandsMeant.{command_meant, IsAccepted};
 ghost use Rattle.zn_commands.specs.Outside.{outside_of};
 ghost use Rattle.zn_cli.specs.Top.{Called, StatusCauses, AcceptedRuns};
 
+use crate::churning::run_churn;
 use crate::scratch::run_scratch;
 use std::alloc::{AllocError, Global};
 use uuid::Builder;
@@ -50,6 +51,10 @@ fn carry_out<S: Source, F: Files + Drop, K: Sink>(
             status: run_scratch(alloc, *scratch, entropy, source, sink),
             files,
         },
+        Command::Churn(churn) => Ended {
+            status: run_churn(alloc, *churn, entropy, sink),
+            files,
+        },
         Command::Add(_, geo) => add(alloc, geo, files, sink),
         Command::Mkfs(_, format) => {
             let uuid = identifier(format.uuid, entropy);
@@ -71,13 +76,15 @@ fn carry_out<S: Source, F: Files + Drop, K: Sink>(
 ///
 /// - `scratch ZONES CONV BLOCKS` makes a device in memory, formats it with the defaults and mounts it, opens `seq/0` for
 ///   reading and writing as number 0 where that is there, and carries out the script that the source gives.
+/// - `churn SEED STEPS` makes a script from the seed, of so many steps, carries it out on a device like that of
+///   `scratch 10 2 64`, and writes what its replies add up to.
 /// - `add DIR KEY=VALUE..` makes a device in the directory, which must be empty.
 /// - `mkfs DIR [-f] [-L LABEL] [-U UUID] [-o FEATURES]` formats the device in the directory.
 /// - `run DIR [-o OPTIONS]` opens the device in the directory, mounts it where there are options, and carries out the
 ///   script that the source gives.
 ///
 /// All other words are a bad command line. The files are those of the directory that the words name, which
-/// `zn_words::dir_of` tells; `scratch`, and words that are no command, make no call on them. Replies and a last line go
+/// `zn_words::dir_of` tells; `scratch` and `churn`, and words that are no command, make no call on them. Replies and a last line go
 /// to the sink. Where memory is wanting for the words or for a device in memory, nothing is read. Where a format names
 /// no identifier, that is made of the sixteen bytes of entropy. The directory is given back as the call left it.
 pub fn zonefs_main<S: Source, F: Files + Drop, K: Sink>(

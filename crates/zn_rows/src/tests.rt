@@ -107,6 +107,15 @@ fn first_row() -> Case {
     )
 }
 
+/// The sums of a long script, as a program in C counts them.
+fn twenty_thousand_steps() -> Case {
+    done(
+        "churn 7 20000",
+        "",
+        "churn seed=7 steps=20000 lines=24873 ok=24873 errors=0 read=321003520 blocks=318\n",
+    )
+}
+
 #[test]
 fn sequential_files_grow(rt: HostRuntime) -> Result<(), Fail> {
     for case in [
@@ -424,6 +433,9 @@ fn other_command_lines_are_refused(rt: HostRuntime) -> Result<(), Fail> {
         "scratsch 4 1 2",
         "scratch 32 1 2049",
         "scratch 0 0 2",
+        "churn 7",
+        "churn 7 1000001",
+        "churn -1 5",
         "",
     ] {
         // A read would fail, and be counted.
@@ -540,6 +552,33 @@ fn other_lines_are_refused(rt: HostRuntime) -> Result<(), Fail> {
             "error bad-handle\nok 0\nerror too-big\nok\nerror too-big\nerror not-allowed\n",
         ),
     )
+}
+
+/// A script that is made makes no use of the source. No line of these is refused.
+#[test]
+fn scripts_are_made_from_seeds(rt: HostRuntime) -> Result<(), Fail> {
+    for case in [
+        done(
+            "churn 1 0",
+            "size 0\n",
+            "churn seed=1 steps=0 lines=7 ok=7 errors=0 read=0 blocks=0\n",
+        ),
+        done(
+            "churn 1 3",
+            "",
+            "churn seed=1 steps=3 lines=10 ok=10 errors=0 read=0 blocks=7\n",
+        ),
+        done(
+            "churn 18446744073709551615 5",
+            "",
+            "churn seed=18446744073709551615 steps=5 lines=12 ok=12 errors=0 read=0 blocks=10\n",
+        ),
+        twenty_thousand_steps(),
+        twenty_thousand_steps(),
+    ] {
+        runs(rt, rt.alloc(), case)?;
+    }
+    Ok(())
 }
 
 /// So many comments of this length, each with a newline behind it, and then more bytes.
