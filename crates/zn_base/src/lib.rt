@@ -12,7 +12,7 @@ ghost use Rattle.std.specs.Io.{ReadsAtMost, WritesAtMost};
 ghost use Rattle.zn_base.specs.States.{SourceState, SinkState, WasRead, WasWritten, Writes};
 
 pub use decimals::parse_number;
-pub use texts::{Part, write_all, write_number, write_parts};
+pub use texts::{Part, hex_digit, put, write_all, write_number, write_parts};
 
 /// A read failed.
 #[derive(Clone, Copy, Debug, PartialEq, Eq)]

@@ -1,5 +1,5 @@
 // Texts that are written whole.
-ghost use Rattle.std.specs.Prelude.{◌≡◌, ◌<◌};
+ghost use Rattle.std.specs.Prelude.{◌≡◌, ◌<◌, ◌≤◌, ◌+◌, ◌++◌, length, take};
 ghost use Rattle.std.specs.Fmt.{decimal};
 ghost use Rattle.zn_base.specs.States.{Writes};
 ghost use Rattle.zn_base.specs.Parts.{part_text, text_of};
@@ -30,7 +30,20 @@ pub fn write_number<K: Sink>(sink: &mut K, number: u64) -> Result<(), WriteFault
     write_all(sink, buffer.format(number).as_bytes())
 }
 
-fn hex_digit(n: u8) -> u8
+/// Puts a text into the buffer at a place, and answers where it ends.
+#[inline(always)]
+pub fn put(buffer: &mut [u8], at: usize, text: &[u8]) -> usize
+    requires { at + length text.now ≤ length buffer.old }
+    ensures end { result ≡ at + length text.now }
+    ensures text { take result buffer.new ≡ take at buffer.old ++ text.now }
+{
+    let end = at + text.len();
+    buffer[at..end].copy_from_slice(text);
+    end
+}
+
+/// A hexadecimal digit in lower case.
+pub fn hex_digit(n: u8) -> u8
     requires { n < 16 }
     ensures { result ≡ hex_digit n }
 {

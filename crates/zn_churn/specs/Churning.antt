@@ -1,5 +1,6 @@
 -- What a script that is made from a seed comes to on a session. (own)
 use Rattle.std.specs.Prelude.{◌⊎◌, ℕ, zero, suc, ◌+◌, ◌/◌, List, [], ◌∷◌, ◌++◌, Option, Some, None, Result, Ok, Err, codes}
+use Rattle.zn_truth.specs.declared.limits.TheConstants.{BLOCK_SIZE}
 use Rattle.zn_gen.specs.Churn.{churn_lines}
 use Rattle.zn_lines.specs.Grammar.{reading_of}
 use Rattle.zn_lines.specs.Lines.{Line}
@@ -62,12 +63,12 @@ carried (line ∷ lines) t = unless_bad (reading_of line) (t.tally.lines + 1) (c
 abbrev pub size_line : ℕ → List ℕ
 size_line handle = codes "size " ++ (48 + handle) ∷ []
 
--- The blocks, of 4,096 bytes each, of the files of so many handles from this one on, as the lines tell that ask for their
+-- The blocks of the files of so many handles from this one on, as the lines tell that ask for their
 -- sizes. No such line changes a file.
 unfoldable pub blocks_told : Table → ℕ → ℕ → ℕ
 blocks_told table zero handle = 0
 blocks_told table (suc count) handle =
-    count_in (reply_of table (size_line handle)) / 4096
+    count_in (reply_of table (size_line handle)) / BLOCK_SIZE
     + blocks_told (table_of table (size_line handle)) count (handle + 1)
 
 -- ---- the whole
@@ -95,7 +96,7 @@ abbrev pub line_by : ℕ → ℕ → Result Outcome Ending → List ℕ
 line_by seed steps (Ok outcome) = summary_line seed steps outcome.tally outcome.blocks
 line_by seed steps (Err ending) = last_line ending
 
--- the host failed in a line, whose number is told
+-- the host failed in a line, and a number is told as that line's
 pub record HostFailed (result : Status) (old new : State) : Type 0 where
   pub number : ℕ
   pub risen : HasRisen old.machine.breaks new.machine.breaks

@@ -1,7 +1,7 @@
 // A script that is made from a seed, carried out line by line.
 ghost use Rattle.std.specs.Prelude.{◌≡◌, ◌<◌, ◌≤◌, ◌+◌, ◌-◌, ◌^◌, true, false, MatchResult, IfOk, Ok, length};
 ghost use Rattle.zn_gen.specs.Churn.{lines_left};
-ghost use Rattle.zn_gen.specs.declared.script.TheConstants.{MOST_STEPS};
+ghost use Rattle.zn_gen.specs.declared.script.TheConstants.{FILES, MOST_STEPS};
 ghost use Rattle.zn_lines.specs.declared.limits.TheConstants.{LINE_LIMIT};
 ghost use Rattle.zn_run.specs.Headline.{Closed};
 ghost use Rattle.zn_run.specs.States.{state_of};
@@ -13,15 +13,10 @@ use crate::replies::ReplyBuffer;
 use crate::tally::{Tally, count_in};
 use std::alloc::Global;
 use zn_base::{Part, Sink};
-use zn_gen::{Churn, MOST_LINE};
+use zn_gen::{Churn, FILES, MOST_LINE};
 use zn_lines::Ending;
 use zn_run::{Machine, Status, Step, end_broken, end_by, end_by_script, end_starved};
-
-/// How many files there are. Each one's handle has its number.
-const FILES: u8 = 8;
-
-/// The bytes of a block.
-const BLOCK: u64 = 4096;
+use zn_truth::BLOCK_SIZE;
 
 /// What a script has come to.
 #[derive(Clone, Copy)]
@@ -109,10 +104,10 @@ fn blocks<M: Machine>(machine: &mut M, lines: u64, reply: &mut ReplyBuffer) -> R
         (λ halt. HaltMeans halt (Ok (blocks_told (M.state machine.old).table 8 0)) (M.state machine.old) (M.state machine.new)) }
 {
     let mut blocks = 0;
-    for handle in 0..FILES {
+    for handle in 0..FILES as u8 {
         let number = lines + 1 + u64::from(handle);
         answer(machine, &size_line(handle), number, reply)?;
-        blocks += count_in(reply.bytes()) / BLOCK;
+        blocks += count_in(reply.bytes()) / BLOCK_SIZE as u64;
     }
     Ok(blocks)
 }
@@ -171,9 +166,10 @@ fn end_told<K: Sink>(sink: &mut K, seed: u64, steps: u32, outcome: Outcome) -> S
 /// Carries out the script that is made from a seed, of so many steps, and writes one line: what its replies add up to,
 /// and how many blocks the eight files have in the end.
 ///
-/// No reply is written. Memory may be wanting for the reply of a line, since the longest one is kept while the script is
-/// carried out, and for what the machine's own lines take. Where it is wanting, and where the host fails in a line, that
-/// is told in place of the sums.
+/// No reply is written. The status is `Done` where the sums are told, and `Script` where a line is outside the grammar,
+/// which is told by its number and column. It is `Memory` where that is wanting for the reply of a line, since the longest
+/// one is kept while the script is carried out, or for what the machine's own lines take; `HostFault` where the host fails
+/// in a line; and `WriteFault` where the sink fails in the one line that is written.
 pub fn churn<M: Machine, K: Sink>(
     alloc: Global,
     machine: &mut M,

@@ -3,6 +3,7 @@ use Rattle.std.specs.Prelude.{ℕ, zero, suc, ◌+◌, ◌-◌, ◌*◌, ◌/◌
 use Rattle.std.specs.Fmt.{decimal}
 use Rattle.zn_base.specs.Runs.{run_text}
 use Rattle.zn_base.specs.Texts.{◌⧺◌}
+use Rattle.zn_truth.specs.declared.limits.TheConstants.{BLOCK_SIZE}
 use Rattle.zn_gen.specs.declared.lines.Append.{Append}
 use Rattle.zn_gen.specs.declared.lines.Line.{Line}
 use Rattle.zn_gen.specs.declared.lines.Line.TheVariants.{Open, Write, Truncate, Read, Sync, Submit, Complete, Reap, Stat}
@@ -53,17 +54,17 @@ step_behind draw =
 abbrev pub fits : ℕ → ℕ → Bool
 fits size more = nat_le (size + more) 64
 
--- the blocks of a step, of 4,096 bytes each, behind those of its file
+-- the blocks of a step behind those of its file
 abbrev pub append_of : Step → ℕ → Append
 append_of step size =
-    record { file = step.file; offset = size * 4096; byte = step.byte; len = step.blocks * 4096 }
+    record { file = step.file; offset = size * BLOCK_SIZE; byte = step.byte; len = step.blocks * BLOCK_SIZE }
 
 -- The line of a step, or the first of its three, by how many blocks its file has. Kinds 0 to 3 write, 4 reads all of
 -- the file, 5 syncs it, 6 submits, and 7 looks at it; what has no room empties the file instead.
 abbrev pub line_of : Step → ℕ → Line
 line_of step size =
     if nat_le step.kind 3 then (if fits size step.blocks then Write (append_of step size) else Truncate step.file)
-    else if step.kind == 4 then Read step.file (size * 4096)
+    else if step.kind == 4 then Read step.file (size * BLOCK_SIZE)
     else if step.kind == 5 then Sync step.file
     else if step.kind == 6 then (if fits size step.blocks then Submit (append_of step size) else Truncate step.file)
     else Stat step.file

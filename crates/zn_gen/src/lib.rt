@@ -9,4 +9,4 @@ mod steps;
 mod tests;
 
 pub use lines::MOST_LINE;
-pub use script::{Churn, MOST_STEPS};
+pub use script::{Churn, FILES, MOST_STEPS};

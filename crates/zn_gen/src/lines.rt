@@ -1,10 +1,10 @@
 // The lines of a script, and their texts.
 ghost use Rattle.std.specs.Prelude.{◌≡◌, ◌+◌, ◌<◌, ◌≤◌, ◌++◌, length, take};
 ghost use Rattle.std.specs.Fmt.{decimal};
-ghost use Rattle.zn_base.specs.Runs.{hex_digit};
 ghost use Rattle.zn_gen.specs.Churn.{path_text, append_text, line_text};
 
 use itoa::Buffer;
+use zn_base::{hex_digit, put};
 
 /// The most bytes of a line.
 pub const MOST_LINE: usize = 64;
@@ -34,18 +34,6 @@ pub(crate) enum Line {
     Stat(u32),
 }
 
-/// Puts a text into the buffer at a place, and answers where it ends.
-#[inline(always)]
-fn put(out: &mut [u8], at: usize, text: &[u8]) -> usize
-    requires { at + length text.now ≤ length out.old }
-    ensures end { result ≡ at + length text.now }
-    ensures text { take result out.new ≡ take at out.old ++ text.now }
-{
-    let end = at + text.len();
-    out[at..end].copy_from_slice(text);
-    end
-}
-
 /// Puts a number's decimal digits, at most ten, into the buffer at a place, and answers where they end.
 #[inline(always)]
 fn put_number(out: &mut [u8], at: usize, number: u32) -> usize
@@ -64,13 +52,6 @@ fn put_path(out: &mut [u8], at: usize, file: u32) -> usize
 {
     let named = put(out, at, b"seq/");
     put_number(out, named, file)
-}
-
-fn hex_digit(n: u8) -> u8
-    requires { n < 16 }
-    ensures { result ≡ hex_digit n }
-{
-    if n < 10 { b'0' + n } else { b'a' + (n - 10) }
 }
 
 fn put_append(out: &mut [u8], at: usize, append: &Append) -> usize

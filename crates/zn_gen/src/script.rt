@@ -8,8 +8,8 @@ use crate::steps::{MODULUS, step_behind};
 /// The most steps.
 pub const MOST_STEPS: u32 = 1_000_000;
 
-/// How many files there are.
-const FILES: usize = 8;
+/// How many files there are. Each one's handle has its number.
+pub const FILES: usize = 8;
 
 /// What the last step has left.
 #[derive(Clone, Copy)]

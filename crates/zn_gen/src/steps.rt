@@ -3,12 +3,10 @@ ghost use Rattle.std.specs.Prelude.{◌≡◌, ◌<◌};
 ghost use Rattle.zn_gen.specs.Churn.{draw_behind, step_behind, append_of, line_of, size_behind};
 
 use crate::lines::{Append, Line};
+use zn_truth::BLOCK_SIZE;
 
 /// What draws are taken modulo.
 pub(crate) const MODULUS: u64 = 65_537;
-
-/// The bytes of a block.
-const BLOCK: u32 = 4096;
 
 /// The blocks that a file has room for.
 const ROOM: u32 = 64;
@@ -62,9 +60,9 @@ impl Step {
     {
         Append {
             file: self.file,
-            offset: u32::from(size) * BLOCK,
+            offset: u32::from(size) * BLOCK_SIZE as u32,
             byte: self.byte,
-            len: self.blocks * BLOCK,
+            len: self.blocks * BLOCK_SIZE as u32,
         }
     }
 
@@ -79,7 +77,7 @@ impl Step {
             0..=3 if fits => Line::Write(self.append(size)),
             4 => Line::Read {
                 file: self.file,
-                len: u32::from(size) * BLOCK,
+                len: u32::from(size) * BLOCK_SIZE as u32,
             },
             5 => Line::Sync(self.file),
             6 if fits => Line::Submit(self.append(size)),

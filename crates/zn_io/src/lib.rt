@@ -8,7 +8,7 @@ mod recovery;
 mod writing;
 
 pub use changes::{sync_file, truncate_file};
-pub use reading::{SCRATCH, read_file};
+pub use reading::{SCRATCH, lengthen, read_file, read_front};
 pub use recovery::{is_passed_on, recover_file};
 pub use writing::write_file;
 

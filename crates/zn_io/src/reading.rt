@@ -1,5 +1,5 @@
 // Reads of a file.
-ghost use Rattle.std.specs.Prelude.{◌≡◌, ℕ, ◌+◌, ◌-◌, ◌*◌, ◌^◌, ◌<◌, ◌≤◌, ◌++◌, length, take, drop, true, false, IsOk, IfOk, IsErr};
+ghost use Rattle.std.specs.Prelude.{◌≡◌, ℕ, ◌+◌, ◌-◌, ◌*◌, ◌^◌, ◌<◌, ◌≤◌, ◌++◌, length, take, drop, true, false, IsOk, IfOk, IsErr, vec_capacity};
 ghost use Rattle.zn_model.specs.declared.limits.TheConstants.{MOST_BYTES};
 ghost use Rattle.zn_truth.specs.World.{geometry_of};
 ghost use Rattle.zn_device.specs.States.{Commanded, Ordered};
@@ -80,9 +80,69 @@ fn covering<D: Zoned>(dev: &D, file: &FileZones, offset: u64, end: u64) -> Area
     area(dev, file, from as u32, (to - from) as u32)
 }
 
+/// Makes a buffer at least so long, in the room that it has. Its memory is touched by the first call that needs it.
+pub fn lengthen(buffer: &mut Vec<u8>, len: usize)
+    requires { len ≤ vec_capacity buffer.old }
+    ensures long { len ≤ length buffer.new.items }
+    ensures room { vec_capacity buffer.old ≤ vec_capacity buffer.new }
+{
+    if buffer.len() < len {
+        buffer.resize(len, 0).unwrap();
+    }
+}
+
+/// Moves so many bytes from a place on to the front.
+fn move_to_front(room: &mut [u8], from: usize, count: usize)
+    requires { from + count ≤ length room.old }
+    ensures moved { take count room.new ≡ take count (drop from room.old) }
+    ensures room { length room.new ≡ length room.old }
+{
+    if from > 0 {
+        room.copy_within(from..from + count, 0);
+    }
+}
+
+/// Reads at most `len` bytes of a file into the front of some room, at most up to the size that it shows, and tells how
+/// many. The room has place for all blocks that they lie in, and its other bytes may change; all of it may, where the
+/// read fails.
+#[tactic(auto, using(zn_device::proofs::Ordered::ordered_none, crate::proofs::Places::read_lies, crate::proofs::Places::capacity_below))]
+pub fn read_front<D: Zoned>(
+    dev: &mut D,
+    file: &FileZones,
+    shown: &Shown,
+    offset: u64,
+    len: u32,
+    room: &mut [u8],
+) -> Result<u64, DevError>
+    requires file { IsFile (geometry_of (D.state dev.old).world) file.now }
+    requires size { shown.now.size ≤ capacity_of (shape_of (D.state dev.old).world) file.now }
+    requires offset { offset ≤ capacity_of (shape_of (D.state dev.old).world) file.now }
+    requires len { len ≤ MOST_BYTES }
+    requires room { SCRATCH ≤ length room.old }
+    requires unspoilt { (D.state dev.old).spoilt ≡ false }
+    ensures done { let end = read_end shown.now offset len in
+        Ordered (read_orders (shape_of (D.state dev.old).world) file.now offset end) (as_reply result)
+        (D.state dev.old) (D.state dev.new) }
+    ensures count { IfOk result (λ n. n ≡ read_end shown.now offset len - offset) }
+    ensures bytes { let old = (D.state dev.old).world in
+        let end = read_end shown.now offset len in
+        IfOk result (λ n. old.truth.told ≡ true →
+        take n room.new ≡ read_bytes old.truth (shape_of old) file.now offset end) }
+{
+    let end = min(offset + u64::from(len), shown.size);
+    if end <= offset {
+        return Ok(0);
+    }
+    let area = covering(dev, file, offset, end);
+    let covered = BLOCK_SIZE * area.blocks as usize;
+    read_pieces(dev, &area, file.zones, &mut room[..covered])?;
+    let skipped = (offset % BLOCK_SIZE as u64) as usize;
+    move_to_front(room, skipped, (end - offset) as usize);
+    Ok(end - offset)
+}
+
 /// Reads bytes of a file into the front of `out`, at most up to the size that it shows, and tells how many.
 /// The blocks that they lie in are read into `scratch` first.
-#[tactic(auto, using(zn_device::proofs::Ordered::ordered_none, crate::proofs::Places::read_lies, crate::proofs::Places::capacity_below))]
 pub fn read_file<D: Zoned>(
     dev: &mut D,
     file: &FileZones,
@@ -108,15 +168,7 @@ pub fn read_file<D: Zoned>(
     ensures rest { IfOk result (λ n. drop n out.new ≡ drop n out.old) }
     ensures failed { IsErr result → out.new ≡ out.old }
 {
-    let end = min(offset + out.len() as u64, shown.size);
-    if end <= offset {
-        return Ok(0);
-    }
-    let area = covering(dev, file, offset, end);
-    let covered = &mut scratch[..BLOCK_SIZE * area.blocks as usize];
-    read_pieces(dev, &area, file.zones, covered)?;
-    let skipped = (offset % BLOCK_SIZE as u64) as usize;
-    let count = (end - offset) as usize;
-    out[..count].copy_from_slice(&covered[skipped..skipped + count]);
-    Ok(end - offset)
+    let count = read_front(dev, file, shown, offset, out.len() as u32, scratch)?;
+    out[..count as usize].copy_from_slice(&scratch[..count as usize]);
+    Ok(count)
 }

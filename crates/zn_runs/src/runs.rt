@@ -1,20 +1,23 @@
 // Bytes that are written as runs of equal bytes.
 ghost use Rattle.std.specs.Prelude.{◌≡◌, ◌≢◌, ◌==◌, ℕ, ◌+◌, ◌<◌, ◌≤◌};
-ghost use Rattle.std.specs.Prelude.{◌++◌, [], length, slice_index, take, codes, if◌then◌else◌};
+ghost use Rattle.std.specs.Prelude.{◌++◌, [], length, slice_index, take, codes, if◌then◌else◌, IsTrue};
 ghost use Rattle.std.specs.Fmt.{decimal};
 ghost use Rattle.std.specs.List.{prefix_len};
 ghost use Rattle.zn_base.specs.States.{Writes};
-ghost use Rattle.zn_base.specs.Runs.{hex_digit, run_text, data_text};
+ghost use Rattle.zn_base.specs.Runs.{run_text, data_text};
 ghost use Rattle.zn_runs.specs.Rest.{text_from};
 
 use itoa::Buffer;
 use std::simd::prelude::*;
-use zn_base::{Sink, WriteFault, write_all};
+use zn_base::{Sink, WriteFault, hex_digit, put, write_all};
 
 /// The most bytes of the text of a run behind a plus sign.
 pub const MOST_RUN: usize = 24;
 
 const LANES: usize = 32;
+
+/// How many bytes are looked at together, as long as all of them are equal.
+const WIDE: usize = 128;
 
 /// How many of the `LANES` bytes from a place on come before the first other one.
 #[inline(always)]
@@ -34,41 +37,38 @@ fn equal_lanes(bytes: &[u8], at: usize, byte: u8) -> usize
     }
 }
 
+/// Whether the `WIDE` bytes from a place on are all this one.
+#[inline(always)]
+fn are_equal(bytes: &[u8], at: usize, byte: u8) -> bool
+    requires { at + WIDE ≤ length bytes.now }
+    ensures { IsTrue result → (k : ℕ) → at ≤ k → k < at + WIDE → slice_index bytes.now k ≡ byte }
+{
+    let same = u8x64::splat(byte);
+    let first = u8x64::from_slice(&bytes[at..]).simd_ne(same);
+    let second = u8x64::from_slice(&bytes[at + WIDE / 2..]).simd_ne(same);
+    (first | second).to_bitmask() == 0
+}
+
 /// How many bytes from the first on are this one.
 fn equal_front(bytes: &[u8], byte: u8) -> usize
     ensures { result ≡ prefix_len (λ b. b == byte) bytes.now }
 {
     let mut at = 0;
+    'wide: while bytes.len() - at >= WIDE && are_equal(bytes, at, byte) {
+        at += WIDE;
+    }
     'lanes: while bytes.len() - at >= LANES {
         let count = equal_lanes(bytes, at, byte);
-        at += count;
         if count < LANES {
-            return at;
+            return at + count;
         }
+        // Not by the count, for which the next load would then wait.
+        at += LANES;
     }
     'rest: while at < bytes.len() && bytes[at] == byte {
         at += 1;
     }
     at
-}
-
-/// Puts a text into the buffer at a place, and answers where it ends.
-#[inline(always)]
-fn put(buffer: &mut [u8], at: usize, text: &[u8]) -> usize
-    requires { at + length text.now ≤ length buffer.old }
-    ensures end { result ≡ at + length text.now }
-    ensures text { take result buffer.new ≡ take at buffer.old ++ text.now }
-{
-    let end = at + text.len();
-    buffer[at..end].copy_from_slice(text);
-    end
-}
-
-fn hex_digit(n: u8) -> u8
-    requires { n < 16 }
-    ensures { result ≡ hex_digit n }
-{
-    if n < 10 { b'0' + n } else { b'a' + (n - 10) }
 }
 
 /// Puts a run into the buffer at a place, behind a plus sign where it isn't the first, and answers where it ends.

@@ -19,7 +19,20 @@ fn writes_runs(rt: HostRuntime) -> Result<(), Fail> {
         assert!(rt; write_runs(&mut sink, bytes.as_bytes(), &mut [0; 64]).is_ok());
         assert_eq!(rt; sink.bytes(), want.as_bytes());
     }
-    for count in [31, 32, 33, 63, 64, 65, 100_000usize] {
+    for count in [
+        31,
+        32,
+        33,
+        63,
+        64,
+        65,
+        127,
+        128,
+        129,
+        192,
+        256,
+        100_000usize,
+    ] {
         let mut bytes = vec![in rt.alloc(); 0xffu8; count]?;
         bytes.push(0)?;
         let mut sink = sink_of(rt.alloc(), 64)?;

@@ -1,7 +1,5 @@
 -- What a line on a mounted volume does, from what the volume's call did.
-use Rattle.std.proofs.Common.{◌≡◌, ◌≤◌, ◌+◌, ℕ, false, List, ◌++◌, length, Option, Result, Ok, Err, refl, sym, ap, ◌∙◌, subst, arith}
-use Rattle.std.specs.Prelude.{IfOk}
-use Rattle.std.proofs.lemmas.List.{take-append-le}
+use Rattle.std.proofs.Common.{◌≡◌, ◌≤◌, ◌+◌, ℕ, false, List, Option, Result, Ok, Err, refl, sym, ap, ◌∙◌, subst, arith}
 use Rattle.zn_model.specs.declared.answers.Refusal.{Refusal}
 use Rattle.zn_model.specs.declared.handles.Handle.{Handle}
 use Rattle.zn_model.specs.CallAnswers.{Answer}
@@ -12,7 +10,7 @@ use Rattle.zn_lines.specs.Lines.{Line}
 use Rattle.zn_lines.specs.ReplyTexts.{refusal_name, reply_text}
 use Rattle.zn_lines.specs.Session.{line_now, says}
 use Rattle.zn_volume.specs.Causes.{CallCause}
-use Rattle.zn_volume.specs.Means.{spoils, without_value, as_read}
+use Rattle.zn_volume.specs.Means.{spoils, without_value}
 use Rattle.zn_volume.specs.VolumeState.{VolumeState, mounted_in}
 use Rattle.zn_volume.proofs.Causing.{look_cause, same_cause}
 use Rattle.zn_session.specs.Replies.{Kept, text_of, IsWritable}
@@ -92,8 +90,3 @@ tells_refused refusal kept = record { writable = tt; text = refl; same = refl }
 -- a reply that is no refusal
 pub tells_value : {X : Type 0} {told : X → List ℕ} {value : X} {reply : Reply} {kept : Kept} → IsWritable reply kept → text_of reply kept ≡ told value → told_by reply ≡ Ok tt → IsReplyTo told (Ok value) reply kept
 tells_value writable same goes = record { writable = writable; text = same; same = ap without_value goes }
-
--- a read's bytes are in front of what else there is
-pub as_read_front : (result : Result ℕ Refusal) (out rest : List ℕ) → IfOk result (λ n. n ≤ length out) → as_read result (out ++ rest) ≡ as_read result out
-as_read_front (Ok n) out rest within = ap Ok (take-append-le n out rest within)
-as_read_front (Err refusal) out rest within = refl

@@ -14,7 +14,6 @@ pub mod MountLines
 pub mod Harming
 pub mod HeldCases
 pub mod Carried
-pub mod Fronts
 pub mod Requests
 pub mod ToldZones
 pub mod LosingPower

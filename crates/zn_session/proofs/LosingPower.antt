@@ -14,16 +14,16 @@ use Rattle.zn_truth.specs.declared.LossSpec.{LossSpec}
 use Rattle.zn_truth.specs.declared.InjectError.TheVariants.{BadFault, TooManyFaults, PowerLost as inject_lost}
 use Rattle.zn_truth.specs.Inject.{Injected, unless_bad, is_zone, is_misplaced, are_bad_cuts, is_outside, is_done_or_not, is_bad_fault, severity, inject, turn, lose_power, arm_loss, power_on}
 use Rattle.zn_truth.specs.Loss.{turned}
-use Rattle.zn_truth.specs.Orders.{Order, ReadAt, Reply}
+use Rattle.zn_truth.specs.Orders.{ReadAt, Reply}
 use Rattle.zn_truth.specs.OrderLists.{issue_all}
 use Rattle.zn_truth.specs.Power.{lost}
 use Rattle.zn_truth.specs.Truth.{Truth, zone_at}
 use Rattle.zn_truth.specs.World.{World, Outcome, issue}
 use Rattle.zn_truth.proofs.LossReplies.{is_loss, tells_loss}
 use Rattle.zn_model.specs.declared.answers.FormatError.{FormatError}
-use Rattle.zn_model.specs.declared.answers.FormatError.TheVariants.{AlreadyFormatted, BadZone0, PowerLost as format_lost}
+use Rattle.zn_model.specs.declared.answers.FormatError.TheVariants.{AlreadyFormatted, PowerLost as format_lost}
 use Rattle.zn_model.specs.declared.answers.MountError.{MountError}
-use Rattle.zn_model.specs.declared.answers.MountError.TheVariants.{NotFormatted, PowerLost as mount_lost}
+use Rattle.zn_model.specs.declared.answers.MountError.TheVariants.{PowerLost as mount_lost}
 use Rattle.zn_model.specs.declared.answers.OptError.{OptError}
 use Rattle.zn_model.specs.declared.answers.Refusal.{Refusal}
 use Rattle.zn_model.specs.declared.answers.Refusal.TheVariants.{PowerLost}
@@ -37,15 +37,15 @@ use Rattle.zn_model.specs.declared.handles.Who.{Who}
 use Rattle.zn_model.specs.CallAnswers.{Answer}
 use Rattle.zn_model.specs.Formatting.{FormatAnswer, format_error_of, format_orders, format_refused, format_ends, format_writes, may_hold_copies, format_read, format_good, format_by, format_reported, format_call, super_block_by}
 use Rattle.zn_model.specs.Given.{copies_in}
-use Rattle.zn_model.specs.Looks.{all_infos, report_all}
-use Rattle.zn_model.specs.Mounting.{MountAnswer, mount_error_of, why_of, is_zone0_unfull, super_block_of, closes, fresh_volume, mount_failed, not_formatted, mount_closed, mount_decoded, mount_read, mount_reported, mount_call, unmount_refusal}
+use Rattle.zn_model.specs.Looks.{report_all}
+use Rattle.zn_model.specs.Mounting.{MountAnswer, mount_error_of, is_zone0_unfull, super_block_of, closes, fresh_volume, mount_failed, not_formatted, mount_closed, mount_decoded, mount_read, mount_reported, mount_call, unmount_refusal}
 use Rattle.zn_model.specs.OpenClose.{open_call, close_call}
 use Rattle.zn_model.specs.Recovery.{refusal_of}
 use Rattle.zn_model.specs.SuperBlock.{SuperBlock}
 use Rattle.zn_model.specs.Volume.{Volume, Mounted}
 use Rattle.zn_model.specs.ZoneFiles.{listing_of}
 use Rattle.zn_lines.specs.Lines as lines
-use Rattle.zn_lines.specs.ReplyTexts.{error_text, ok_text, refusal_name, format_error_name, mount_error_name, inject_error_name, reply_text, plain, number_text, read_text, done_text, stat_text, list_text, attr_text}
+use Rattle.zn_lines.specs.ReplyTexts.{error_text, ok_text, refusal_name, format_error_name, mount_error_name, reply_text, plain, number_text, read_text, done_text, stat_text, list_text, attr_text}
 use Rattle.zn_lines.specs.Session as session
 use Rattle.zn_lines.specs.Session.{line_now, line_step, says, says_error, tells, opens, open_line, close_line, freed_by, is_busy, unmounts, formats, format_with, unless_mounted, label_in, uuid_in, features_in, mounts, mount_with, options_in, injects, zones_told, names_in, dropped_unless}
 use Rattle.zn_lines.specs.Table.{Table, handle_of, with_mounted, without_number}

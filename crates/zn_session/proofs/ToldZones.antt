@@ -1,5 +1,5 @@
 -- What a report of all zones does to a session, and how it is told.
-use Rattle.std.proofs.Common.{◌≡◌, ◌<◌, ◌^◌, ℕ, ◌+◌, Bool, true, false, List, [], ◌∷◌, ◌++◌, length, map, get_or, Option, Some, None, Result, Ok, Err, refl, sym, ap, ◌∙◌, subst, inl, inr, zero-add, arith}
+use Rattle.std.proofs.Common.{◌≡◌, ◌<◌, ◌^◌, ℕ, ◌+◌, false, List, [], ◌∷◌, ◌++◌, length, map, get_or, Option, Some, None, Result, Ok, Err, refl, sym, ap, ◌∙◌, subst, inl, inr, zero-add, arith}
 use Rattle.std.proofs.Math.ListN.{set}
 use Rattle.std.specs.Prelude.{IsOk, IsErrOf, option_map}
 use Rattle.std.specs.List.{flat_map, enumerate_from}
@@ -7,19 +7,16 @@ use Rattle.std.proofs.lemmas.Bool.{cases_eq}
 use Rattle.std.proofs.lemmas.List.{length-map, get_or-map, get_or-set_same, get_or-set_other, ext_get_or}
 use Rattle.std.proofs.lemmas.List.FromFn.{length-enumerate_from, get_or-enumerate_from}
 use Rattle.zn_base.specs.Causes.{Rose}
-use Rattle.zn_truth.specs.declared.DevError.{DevError}
 use Rattle.zn_truth.specs.declared.Kind.TheVariants.{Sequential}
 use Rattle.zn_truth.specs.declared.ZoneInfo.{ZoneInfo}
 use Rattle.zn_truth.specs.Orders.{Reply as DeviceReply}
 use Rattle.zn_truth.specs.Truth.{Geometry, room, kind_at}
 use Rattle.zn_truth.specs.World.{World, issue, geometry_of}
-use Rattle.zn_device.specs.States.{DeviceState}
 use Rattle.zn_model.specs.declared.answers.Refusal.{Refusal}
 use Rattle.zn_model.specs.declared.answers.Refusal.TheVariants.{IoError}
 use Rattle.zn_model.specs.declared.files.Place.{Place}
 use Rattle.zn_model.specs.declared.files.Place.TheVariants.{Unplaced}
 use Rattle.zn_model.specs.declared.handles.Handle.{Handle}
-use Rattle.zn_model.specs.CallAnswers.{Answer}
 use Rattle.zn_model.specs.Keys.{unkeyed_volume}
 use Rattle.zn_model.specs.Looks.{all_infos, report_all, after_report, report_call}
 use Rattle.zn_model.specs.Recovery.{refusal_of}
@@ -31,11 +28,11 @@ use Rattle.zn_lines.specs.Table.{Table}
 use Rattle.zn_volume.specs.Causes.{CallCause}
 use Rattle.zn_volume.specs.Means.{spoils}
 use Rattle.zn_volume.specs.MountSteps.{no_info}
-use Rattle.zn_volume.specs.Reports.{as_told, as_reported, Reports}
+use Rattle.zn_volume.specs.Reports.{as_told, as_reported}
 use Rattle.zn_volume.specs.VolumeState.{VolumeState, mounted_in}
-use Rattle.zn_session.specs.Replies.{Kept, told_line, told_zones, text_of}
+use Rattle.zn_session.specs.Replies.{Kept, told_line, told_zones}
 use Rattle.zn_session.specs.SessionState.{HeldState, mounted_held, table_by, unkeyed_numbers, numbered_on, AreNumbered, used_on}
-use Rattle.zn_session.specs.Steps.{ends, Means}
+use Rattle.zn_session.specs.Steps.{Means}
 use Rattle.zn_session.specs.Told.{told_of, ReportsOn}
 use Rattle.zn_session.specs.declared.replies.Reply.TheVariants.{Refused, Zones as ToldZones}
 use Rattle.zn_session.specs.declared.room.ZoneTold.{ZoneTold}

@@ -1,11 +1,11 @@
 -- What a clause sees of a session. (own)
-use Rattle.std.specs.Prelude.{◌≡◌, ◌≤◌, ◌+◌, ℕ, Bool, true, false, List, [], length, map}
+use Rattle.std.specs.Prelude.{◌≡◌, ◌≤◌, ◌+◌, ℕ, Bool, true, false, List, [], length, map, vec_capacity}
 use Rattle.std.specs.Prelude.{Option, Some, None, option_map, slice_index_or, IsSome}
 use Rattle.zn_truth.specs.Truth.{Truth}
 use Rattle.zn_truth.specs.World.{calm, geometry_of}
 use Rattle.zn_device.specs.States.{DeviceState}
 use Rattle.zn_model.specs.declared.handles.Handle.{Handle}
-use Rattle.zn_model.specs.declared.limits.TheConstants.{MOST_BYTES}
+use Rattle.zn_io.specs.declared.reading.TheConstants.{SCRATCH}
 use Rattle.zn_model.specs.Keys.{unkeyed_handle, unkeyed_volume, IsUsedOnce}
 use Rattle.zn_model.specs.Volume.{Volume, Mounted, live_at}
 use Rattle.zn_lines.specs.declared.limits.TheConstants.{MAX_NUMBERS}
@@ -138,7 +138,7 @@ zones_in held = length (geometry_of held.device.world).kinds
 
 -- There is room for the bytes of one call, and for a report of so many zones.
 pub record HasRoom (count : ℕ) (room : Room) : Type 0 where
-  pub bytes : length room.bytes.items ≡ MOST_BYTES
+  pub bytes : SCRATCH ≤ vec_capacity room.bytes
   pub infos : length room.infos.items ≡ count
   pub zones : length room.zones.items ≡ count
 

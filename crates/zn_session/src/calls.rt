@@ -1,8 +1,9 @@
 // The lines that are calls on a mounted volume.
-ghost use Rattle.std.specs.Prelude.{◌≡◌, ◌≤◌, ◌<◌, ◌^◌, ℕ, List, length, take};
+ghost use Rattle.std.specs.Prelude.{◌≡◌, ◌≤◌, ◌<◌, ◌^◌, ℕ, List, length, take, vec_capacity};
 ghost use Rattle.std.specs.Prelude.{false, Option, Some, Ok, IfOk, IsSome, option_map};
 ghost use Rattle.zn_lines.specs.declared.limits.TheConstants.{LAST_NUMBER};
 ghost use Rattle.zn_model.specs.declared.limits.TheConstants.{MOST_BYTES};
+ghost use Rattle.zn_io.specs.declared.reading.TheConstants.{SCRATCH};
 ghost use Rattle.zn_lines.specs.Grammar.{data_of};
 ghost use Rattle.zn_model.specs.Reading.{read_call};
 ghost use Rattle.zn_lines.specs.Lines.{bytes_of, OpenFile, CloseFile, SizeOf, ReadFrom, WriteTo, TruncateTo, SyncFile};
@@ -22,8 +23,9 @@ ghost use Rattle.zn_session.specs.Steps.{IsCall, Answers, IsReplyTo, is_busy_ans
 
 use crate::replies::Reply;
 use zn_device::Zoned;
+use zn_io::{SCRATCH, lengthen};
 use zn_lines::Change;
-use zn_model::{Done, Handle, Mode, Refusal, Who};
+use zn_model::{Done, Handle, MOST_BYTES, Mode, Refusal, Who};
 use zn_script::{Line, expand};
 use zn_volume::Volume;
 
@@ -150,29 +152,7 @@ fn size<D: Zoned + Drop>(
     }
 }
 
-/// Reads at most `len` bytes of the file of a handle into the front of some room.
-fn read_front<D: Zoned + Drop>(
-    volume: &mut Volume<D>,
-    h: Handle,
-    offset: u64,
-    len: u32,
-    room: &mut [u8],
-) -> Result<u64, Refusal>
-    requires len { len ≤ MOST_BYTES }
-    requires room { length room.old ≡ MOST_BYTES }
-    requires unspoilt { volume.old.device.spoilt ≡ false }
-    ensures reply { volume.new.device.spoilt ≡ false
-        → as_read result room.new ≡ (read_call room.new (mounted_in volume.old) h offset len).reply }
-    ensures mounted { volume.new.device.spoilt ≡ false
-        → mounted_in volume.new ≡ (read_call room.new (mounted_in volume.old) h offset len).mounted }
-    ensures count { IfOk result (λ n. n ≤ MOST_BYTES) }
-    ensures room { length room.new ≡ MOST_BYTES }
-    ensures cause { CallCause result volume.old.device volume.new.device }
-{
-    volume.read(h, offset, &mut room[..len as usize])
-}
-
-/// The same, into the front of the buffer.
+/// Reads at most `len` bytes of the file of a handle into the front of the buffer.
 fn read_into<D: Zoned + Drop>(
     volume: &mut Volume<D>,
     h: Handle,
@@ -181,17 +161,19 @@ fn read_into<D: Zoned + Drop>(
     buffer: &mut Vec<u8>,
 ) -> Result<u64, Refusal>
     requires len { len ≤ MOST_BYTES }
-    requires room { length buffer.old.items ≡ MOST_BYTES }
+    requires room { SCRATCH ≤ vec_capacity buffer.old }
     requires unspoilt { volume.old.device.spoilt ≡ false }
     ensures reply { volume.new.device.spoilt ≡ false
         → as_read result buffer.new.items ≡ (read_call buffer.new.items (mounted_in volume.old) h offset len).reply }
     ensures mounted { volume.new.device.spoilt ≡ false
         → mounted_in volume.new ≡ (read_call buffer.new.items (mounted_in volume.old) h offset len).mounted }
     ensures count { IfOk result (λ n. n ≤ MOST_BYTES) }
-    ensures room { length buffer.new.items ≡ MOST_BYTES }
+    ensures long { MOST_BYTES ≤ length buffer.new.items }
+    ensures room { SCRATCH ≤ vec_capacity buffer.new }
     ensures cause { CallCause result volume.old.device volume.new.device }
 {
-    read_front(volume, h, offset, len, buffer)
+    lengthen(buffer, SCRATCH);
+    volume.read_front(h, offset, len, buffer)
 }
 
 /// Reads at most `len` bytes into the front of the buffer.
@@ -205,12 +187,12 @@ fn read<D: Zoned + Drop>(
 ) -> Reply<'static>
     requires number { number ≤ LAST_NUMBER }
     requires len { len ≤ MOST_BYTES }
-    requires room { length buffer.old.items ≡ MOST_BYTES }
+    requires room { SCRATCH ≤ vec_capacity buffer.old }
     requires unspoilt { volume.old.device.spoilt ≡ false }
     requires numbered { IsNumbered (mounted_in volume.old) numbers.now }
     ensures answers { (zones : List TheZoneTold) → Answers (ReadFrom number offset len) result
         (kept_as buffer.new.items zones) volume.old volume.new numbers.now numbers.now }
-    ensures room { length buffer.new.items ≡ MOST_BYTES }
+    ensures room { SCRATCH ≤ vec_capacity buffer.new }
 {
     match handle_of(numbers, number) {
         None => Reply::Refused(Refusal::BadHandle),
@@ -221,11 +203,13 @@ fn read<D: Zoned + Drop>(
 /// Puts the bytes that a word of data stands for to the front of the buffer, and answers how many they are.
 fn put_data(word: &[u8], buffer: &mut Vec<u8>) -> usize
     requires data { IsSome (data_of word.now) }
-    requires room { length buffer.old.items ≡ MOST_BYTES }
+    requires room { SCRATCH ≤ vec_capacity buffer.old }
     ensures bytes { take result buffer.new.items ≡ bytes_of (runs_meant word.now) }
     ensures small { result ≤ MOST_BYTES }
-    ensures room { length buffer.new.items ≡ MOST_BYTES }
+    ensures long { MOST_BYTES ≤ length buffer.new.items }
+    ensures room { SCRATCH ≤ vec_capacity buffer.new }
 {
+    lengthen(buffer, MOST_BYTES as usize);
     expand(word, buffer)
 }
 
@@ -240,12 +224,12 @@ fn write<D: Zoned + Drop>(
 ) -> Reply<'static>
     requires number { number ≤ LAST_NUMBER }
     requires data { IsSome (data_of word.now) }
-    requires room { length buffer.old.items ≡ MOST_BYTES }
+    requires room { SCRATCH ≤ vec_capacity buffer.old }
     requires unspoilt { volume.old.device.spoilt ≡ false }
     requires numbered { IsNumbered (mounted_in volume.old) numbers.now }
     ensures answers { (zones : List TheZoneTold) → Answers (WriteTo number offset (runs_meant word.now)) result
         (kept_as buffer.new.items zones) volume.old volume.new numbers.now numbers.now }
-    ensures room { length buffer.new.items ≡ MOST_BYTES }
+    ensures room { SCRATCH ≤ vec_capacity buffer.new }
 {
     match handle_of(numbers, number) {
         None => Reply::Refused(Refusal::BadHandle),
@@ -303,13 +287,13 @@ fn submit<D: Zoned + Drop>(
 ) -> Reply<'static>
     requires number { number ≤ LAST_NUMBER }
     requires data { IsSome (data_of word.now) }
-    requires room { length buffer.old.items ≡ MOST_BYTES }
+    requires room { SCRATCH ≤ vec_capacity buffer.old }
     requires unspoilt { volume.old.device.spoilt ≡ false }
     requires few { volume.old.volume.queue.last_ticket < 2 ^ 63 }
     requires numbered { IsNumbered (mounted_in volume.old) numbers.now }
     ensures answers { (zones : List TheZoneTold) → Answers (SubmitTo number offset (runs_meant word.now)) result
         (kept_as buffer.new.items zones) volume.old volume.new numbers.now numbers.now }
-    ensures room { length buffer.new.items ≡ MOST_BYTES }
+    ensures room { SCRATCH ≤ vec_capacity buffer.new }
 {
     match handle_of(numbers, number) {
         None => Reply::Refused(Refusal::BadHandle),
@@ -402,13 +386,13 @@ pub fn answer<'a, D: Zoned + Drop>(
 ) -> Reply<'a>
     requires call { IsCall line.now }
     requires fits { CallFits line.now }
-    requires room { length buffer.old.items ≡ MOST_BYTES }
+    requires room { SCRATCH ≤ vec_capacity buffer.old }
     requires unspoilt { volume.old.device.spoilt ≡ false }
     requires few { used_by volume.old.volume < 2 ^ 63 }
     requires numbered { IsNumbered (mounted_in volume.old) numbers.old.items }
     ensures answers { (zones : List TheZoneTold) → Answers (line_meant line.now) result
         (kept_as buffer.new.items zones) volume.old volume.new numbers.old.items numbers.new.items }
-    ensures room { length buffer.new.items ≡ MOST_BYTES }
+    ensures room { SCRATCH ≤ vec_capacity buffer.new }
 {
     match *line {
         Line::Open(number, path, mode, who) => open(volume, numbers, number, path, mode, who),

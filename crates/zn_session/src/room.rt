@@ -5,7 +5,8 @@ ghost use Rattle.zn_session.specs.SessionState.{HasRoom};
 
 use std::alloc::{AllocError, Global};
 use zn_device::Zoned;
-use zn_model::{MOST_BYTES, Place};
+use zn_io::SCRATCH;
+use zn_model::Place;
 use zn_truth::{Cond, Kind, ZoneInfo};
 
 /// What the line of a zone tells.
@@ -18,7 +19,8 @@ pub struct ZoneTold {
     pub place: Place,
 }
 
-/// Room for the bytes of a call, for a report of all zones, and for what is told of them.
+/// Room for the bytes of a call, for a report of all zones, and for what is told of them. That for bytes is as long as a
+/// call has needed it.
 #[derive(Drop)]
 pub struct Room {
     pub bytes: Vec<u8>,
@@ -42,7 +44,7 @@ pub fn take_room<D: Zoned>(alloc: Global, dev: &D) -> Result<Room, AllocError>
         room: 0,
         place: Place::Unplaced,
     };
-    let bytes = vec![in alloc; 0; MOST_BYTES as usize]?;
+    let bytes = Vec::with_capacity(alloc, SCRATCH)?;
     let infos = vec![in alloc; info; zones]?;
     let zones = vec![in alloc; told; zones]?;
     Ok(Room {

@@ -1,8 +1,8 @@
 // A session.
-ghost use Rattle.std.specs.Prelude.{◌≡◌, ◌<◌, ◌+◌, ◌^◌, ℕ, List, length, false, Ok, Some, IfOk, IfErr, IsSome};
+ghost use Rattle.std.specs.Prelude.{◌≡◌, ◌<◌, ◌+◌, ◌^◌, ℕ, List, length, false, Ok, Some, IfOk, IfErr, IsSome, vec_capacity, ◌≤◌};
 ghost use Rattle.zn_lines.specs.Session.{line_now, line_step};
 ghost use Rattle.zn_lines.specs.Table.{no_numbers};
-ghost use Rattle.zn_model.specs.declared.limits.TheConstants.{MOST_BYTES};
+ghost use Rattle.zn_io.specs.declared.reading.TheConstants.{SCRATCH};
 ghost use Rattle.zn_run.specs.States.{state_of};
 ghost use Rattle.zn_run.specs.Steps.{Stepped};
 ghost use Rattle.zn_truth.specs.World.{geometry_of};
@@ -160,7 +160,7 @@ fn call<'a, D: Zoned + Drop>(
 ) -> Reply<'a>
     requires call { IsCall line.now }
     requires fits { CallFits line.now }
-    requires room { length buffer.old.items ≡ MOST_BYTES }
+    requires room { SCRATCH ≤ vec_capacity buffer.old }
     requires there { IsSome held.old }
     requires unspoilt { (held_by D.state held.old).device.spoilt ≡ false }
     requires few { used_on (held_by D.state held.old).volume < 2 ^ 63 }
@@ -168,7 +168,7 @@ fn call<'a, D: Zoned + Drop>(
     ensures means { (zones : List TheZoneTold) (entropy : List ℕ) → Means line_now (line_meant line.now) result
         (kept_as buffer.new.items zones) entropy
         (held_by D.state held.old) (held_by D.state held.new) numbers.old.items numbers.new.items }
-    ensures room { length buffer.new.items ≡ MOST_BYTES }
+    ensures room { SCRATCH ≤ vec_capacity buffer.new }
     ensures there { IsSome held.new }
 {
     match held {

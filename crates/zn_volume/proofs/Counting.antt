@@ -1,5 +1,5 @@
 -- The sequential files that are open for writing.
-use Rattle.std.proofs.Common.{◌≡◌, ℕ, zero, suc, ◌+◌, ◌-◌, ◌<◌, ◌≤◌, Bool, true, false, cond, List, [], ◌∷◌, length, refl, sym, ap, ◌∙◌, subst, arith, add-zero, zero-add, count_by, length-append}
+use Rattle.std.proofs.Common.{◌≡◌, ℕ, zero, suc, ◌+◌, ◌-◌, ◌≤◌, Bool, false, List, length, refl, sym, ap, ◌∙◌, subst, arith, zero-add, count_by, length-append}
 use Rattle.std.specs.Prelude.{◌&&◌, nat_lt}
 use Rattle.std.specs.List.{range_with_len}
 use Rattle.zn_truth.specs.World.{World}

@@ -1,5 +1,5 @@
 -- The parts of a volume go on agreeing.
-use Rattle.std.proofs.Common.{◌≡◌, ℕ, ◌+◌, ◌*◌, ◌<◌, ◌≤◌, Bool, true, false, Option, Some, None, Result, Ok, Err, length, get_or, refl, sym, ap, ◌∙◌, subst, inl, inr, arith, List, [], ◌∷◌, ◌++◌}
+use Rattle.std.proofs.Common.{◌≡◌, ℕ, ◌+◌, ◌<◌, ◌≤◌, Bool, true, false, Option, Some, None, Result, Ok, Err, length, get_or, refl, sym, ap, ◌∙◌, subst, inl, inr, arith, List, [], ◌∷◌, ◌++◌}
 use Rattle.std.proofs.lemmas.Bool.{and_parts, cases_eq, cases_lt}
 use Rattle.std.proofs.lemmas.List.{get_or-set_same, get_or-set_other, set_past, length-set}
 use Rattle.zn_truth.specs.declared.Cond.{Cond}
@@ -36,7 +36,7 @@ use Rattle.zn_volume.specs.VolumeState.{Agrees, IsHeldSequential}
 use Rattle.zn_volume.proofs.InFlight.{without_file, idle_set, size_stays, first_in_place, first_done, grown_by, grown_size}
 
 -- a command keeps the device's geometry, and a read the room for blocks
-pub agrees_on : (v w : World) (inodes : Inodes) (seen : handles.HandleState) (queued : List Request) (infos a b : ℕ) → geometry_of w ≡ geometry_of v → b ≡ a → Agrees v inodes seen queued infos a → Agrees w inodes seen queued infos b
+pub agrees_on : (v w : World) (inodes : Inodes) (seen : handles.HandleState) (queued : List Request) (infos a b : ℕ) → geometry_of w ≡ geometry_of v → a ≤ b → Agrees v inodes seen queued infos a → Agrees w inodes seen queued infos b
 agrees_on v w inodes seen queued infos a b same len agrees = record {
   files = λ f below. subst (λ (g : Geometry). IsFile g (file_at inodes f)) (sym same) (agrees.files f below);
   conventional = agrees.conventional;
@@ -50,7 +50,7 @@ agrees_on v w inodes seen queued infos a b same len agrees = record {
   cnv = agrees.cnv;
   known = agrees.known;
   places = agrees.places ∙ ap (λ (g : Geometry). length g.kinds) (sym same);
-  blocks = subst (λ (n : ℕ). 4096 * 257 ≤ n) (sym len) agrees.blocks;
+  blocks = omega (arith, len, agrees.blocks);
 }
 
 -- a fault that is made to wait changes nothing of what the device is
@@ -160,7 +160,7 @@ agrees_recovered after_read policy f result old new before after seen queue left
     }
 
 -- a file shows something else, and other requests may wait
-agrees_set : (v w : World) (inodes after : Inodes) (f : ℕ) (shown : Shown) (seen : handles.HandleState) (queued left : List Request) (infos a b : ℕ) → geometry_of w ≡ geometry_of v → b ≡ a → after ≡ with_shown inodes f shown
+agrees_set : (v w : World) (inodes after : Inodes) (f : ℕ) (shown : Shown) (seen : handles.HandleState) (queued left : List Request) (infos a b : ℕ) → geometry_of w ≡ geometry_of v → a ≤ b → after ≡ with_shown inodes f shown
     → IsWithinRoom after → (shown.held_open ≡ true → (file_at inodes f).seq ≡ true) → AreInFlight (with_shown inodes f shown) left → Agrees v inodes seen queued infos a → Agrees w after seen left infos b
 agrees_set v w inodes after f shown seen queued left infos a b same len set within held flight agrees = subst (λ (i : Inodes). Agrees w i seen left infos b) (sym set) (record {
   files = λ k below. subst (λ (g : Geometry). IsFile g (file_at inodes k)) (sym same) (agrees.files k below);
@@ -175,7 +175,7 @@ agrees_set v w inodes after f shown seen queued left infos a b same len set with
   cnv = agrees.cnv;
   known = agrees.known;
   places = agrees.places ∙ ap (λ (g : Geometry). length g.kinds) (sym same);
-  blocks = subst (λ (n : ℕ). 4096 * 257 ≤ n) (sym len) agrees.blocks;
+  blocks = omega (arith, len, agrees.blocks);
 })
 
 -- what a file shows after a write
@@ -185,7 +185,7 @@ grown_held w inodes f len seen queued infos scratch shown known grows agrees is 
     agrees.held.file f known (and_parts (shown_at inodes f).held_open _ (sym (ap (λ (s : Shown). s.held_open) grows) ∙ is)).0
 
 -- a write of the oldest request, which has ended
-pub agrees_done : (v w : World) (inodes after : Inodes) (shown : Shown) (seen : handles.HandleState) (queued : List Request) (oldest : Request) (waiting left : List Request) (infos a b : ℕ) → geometry_of w ≡ geometry_of v → b ≡ a
+pub agrees_done : (v w : World) (inodes after : Inodes) (shown : Shown) (seen : handles.HandleState) (queued : List Request) (oldest : Request) (waiting left : List Request) (infos a b : ℕ) → geometry_of w ≡ geometry_of v → a ≤ b
     → queued ≡ oldest ∷ waiting → left ≡ waiting → shown ≡ grown inodes.shape (file_at inodes oldest.file) (shown_at inodes oldest.file) (length oldest.bytes) → after ≡ with_shown inodes oldest.file shown
     → (IsWithinRoom inodes → shown.size ≤ capacity_at inodes oldest.file → IsWithinRoom after) → Agrees v inodes seen queued infos a → Agrees w after seen left infos b
 agrees_done v w inodes after shown seen queued oldest waiting left infos a b same len first ended grows set within agrees =
@@ -198,7 +198,7 @@ agrees_done v w inodes after shown seen queued oldest waiting left infos a b sam
     known = (first_in_place inodes queued oldest waiting first agrees.flight).known
 
 -- a write to a file for which no request waits
-pub agrees_written : (v w : World) (inodes after : Inodes) (f len : ℕ) (shown : Shown) (seen : handles.HandleState) (queue : Queue) (infos a b : ℕ) → geometry_of w ≡ geometry_of v → b ≡ a → f < length (files_of inodes.layout)
+pub agrees_written : (v w : World) (inodes after : Inodes) (f len : ℕ) (shown : Shown) (seen : handles.HandleState) (queue : Queue) (infos a b : ℕ) → geometry_of w ≡ geometry_of v → a ≤ b → f < length (files_of inodes.layout)
     → ((file_at inodes f).seq ≡ true → (shown_at inodes f).size + len ≤ capacity_at inodes f) → is_queued queue f ≡ false → shown ≡ grown inodes.shape (file_at inodes f) (shown_at inodes f) len → after ≡ with_shown inodes f shown
     → (IsWithinRoom inodes → shown.size ≤ capacity_at inodes f → IsWithinRoom after) → Agrees v inodes seen queue.queued infos a → Agrees w after seen queue.queued infos b
 agrees_written v w inodes after f len shown seen queue infos a b same long known behind idle grows set within agrees =
@@ -208,7 +208,7 @@ agrees_written v w inodes after f len shown seen queue infos a b same long known
     (idle_set inodes f shown queue agrees.flight idle) agrees
 
 -- another size of a sequential file for which no request waits
-pub agrees_resized : (v w : World) (inodes after : Inodes) (f : ℕ) (shown : Shown) (seen : handles.HandleState) (queue : Queue) (infos a b : ℕ) → geometry_of w ≡ geometry_of v → b ≡ a → (file_at inodes f).seq ≡ true
+pub agrees_resized : (v w : World) (inodes after : Inodes) (f : ℕ) (shown : Shown) (seen : handles.HandleState) (queue : Queue) (infos a b : ℕ) → geometry_of w ≡ geometry_of v → a ≤ b → (file_at inodes f).seq ≡ true
     → is_queued queue f ≡ false → after ≡ with_shown inodes f shown → IsWithinRoom after → Agrees v inodes seen queue.queued infos a → Agrees w after seen queue.queued infos b
 agrees_resized v w inodes after f shown seen queue infos a b same long sequential idle set within agrees =
     agrees_set v w inodes after f shown seen queue.queued queue.queued infos a b same long set within (λ is. sequential) (idle_set inodes f shown queue agrees.flight idle) agrees
@@ -217,7 +217,7 @@ agrees_resized v w inodes after f shown seen queue infos a b same long sequentia
 pub agrees_noted : (w : World) (inodes after : Inodes) (f : ℕ) (shown : Shown) (seen : handles.HandleState) (queued : List Request) (infos scratch : ℕ) → f < length (files_of inodes.layout) → shown.size ≡ (shown_at inodes f).size
     → (shown.held_open ≡ true → (file_at inodes f).seq ≡ true) → after ≡ with_shown inodes f shown → (IsWithinRoom inodes → shown.size ≤ capacity_at inodes f → IsWithinRoom after) → Agrees w inodes seen queued infos scratch → Agrees w after seen queued infos scratch
 agrees_noted w inodes after f shown seen queued infos scratch known size held set within agrees =
-    agrees_set w w inodes after f shown seen queued queued infos scratch scratch refl refl set (within agrees.sizes (subst (λ (n : ℕ). n ≤ capacity_at inodes f) (sym size) (agrees.sizes.size f known))) held
+    agrees_set w w inodes after f shown seen queued queued infos scratch scratch refl (omega arith) set (within agrees.sizes (subst (λ (n : ℕ). n ≤ capacity_at inodes f) (sym size) (agrees.sizes.size f known))) held
     (size_stays inodes f shown queued agrees.flight size) agrees
 
 -- ---- zones

@@ -92,7 +92,7 @@ fresh_held t layout = record {
 
 pub fresh_agrees : (v w : World) (aggr : Bool) (inodes : Inodes) (seen : handles.HandleState) (queue : Queue) (infos scratch : ℕ) → IsSound v.truth → IsWithinLimits (geometry_of v) → geometry_of w ≡ geometry_of v
     → inodes ≡ fresh_inodes v.truth (layout_of (geometry v.truth).kinds aggr) → seen.cnv ≡ length inodes.layout.cnv → seen.files ≡ length (files_of inodes.layout)
-    → queue ≡ fresh_queue → infos ≡ length (geometry_of v).kinds → scratch ≡ 4096 * 257 → Agrees w inodes seen queue.queued infos scratch
+    → queue ≡ fresh_queue → infos ≡ length (geometry_of v).kinds → 4096 * 257 ≤ scratch → Agrees w inodes seen queue.queued infos scratch
 unfolding geometry_of
 fresh_agrees v w aggr inodes seen queue infos scratch sound limits same is cnv known none places blocks =
     let fresh : Inodes = fresh_inodes v.truth (layout_of (geometry v.truth).kinds aggr) in

@@ -1,6 +1,6 @@
 // The commands of a mount: a report of all zones, a read of the super block's two copies, and the closes of zones that
 // are left open.
-ghost use Rattle.std.specs.Prelude.{◌≡◌, ◌*◌, ◌<◌, ◌≤◌, ◌∷◌, [], ◌&&◌, length, take, drop, All, true, false, Ok, IfOk, IsOk};
+ghost use Rattle.std.specs.Prelude.{◌≡◌, ◌*◌, ◌<◌, ◌≤◌, ◌∷◌, [], ◌&&◌, length, take, drop, All, true, false, Ok, IfOk, IsOk, vec_capacity};
 ghost use Rattle.zn_truth.specs.declared.limits.TheConstants.{BLOCK_SIZE};
 ghost use Rattle.zn_truth.specs.Truth.{Truth, bytes_at, geometry};
 ghost use Rattle.zn_truth.specs.Obeying.{IsZoneToManage};
@@ -131,7 +131,7 @@ fn find_super_block<D: Zoned>(
     ensures found { Finds (λ given t. looks t) result (D.state dev.old) (D.state dev.new) }
     ensures infos { IsOk result → infos.new.items ≡ all_infos (D.state dev.old).world.truth }
     ensures places { length infos.new.items ≡ length infos.old.items }
-    ensures room { length scratch.new.items ≡ length scratch.old.items }
+    ensures room { vec_capacity scratch.new ≡ vec_capacity scratch.old }
 {
     if let Err(error) = report_all(dev, infos) {
         return Err(mount_error(error));
@@ -192,7 +192,7 @@ pub(crate) fn carry_out<D: Zoned>(
     ensures found { Finds mount_orders result (D.state dev.old) (D.state dev.new) }
     ensures infos { IsOk result → infos.new.items ≡ all_infos (D.state dev.old).world.truth }
     ensures places { length infos.new.items ≡ length infos.old.items }
-    ensures room { length scratch.new.items ≡ length scratch.old.items }
+    ensures room { vec_capacity scratch.new ≡ vec_capacity scratch.old }
 {
     let super_block = find_super_block(dev, infos, scratch)?;
     match close_all(dev, infos) {

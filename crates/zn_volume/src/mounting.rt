@@ -1,5 +1,5 @@
 // Mounts.
-ghost use Rattle.std.specs.Prelude.{◌≡◌, List, length, false, true, Ok, IfOk, IfErr};
+ghost use Rattle.std.specs.Prelude.{◌≡◌, List, length, false, true, Ok, IfOk, IfErr, vec_capacity};
 ghost use Rattle.zn_truth.specs.declared.Kind.{Kind as TheKind};
 ghost use Rattle.zn_truth.specs.declared.Shape.{Shape as TheShape};
 ghost use Rattle.zn_truth.specs.Truth.{Truth, geometry};
@@ -99,7 +99,7 @@ fn take_parts<D: Zoned>(alloc: Global, dev: &mut D) -> Result<Parts, MountError>
     ensures handles { IfOk result (λ p. p.handles.handles ≡ fresh_handles) }
     ensures queue { IfOk result (λ p. p.queue.queue ≡ fresh_queue) }
     ensures agrees { IfOk result (λ p. Agrees (D.state dev.new).world p.inodes p.handles p.queue.queue.queued
-        (length p.infos.items) (length p.scratch.items)) }
+        (length p.infos.items) (vec_capacity p.scratch)) }
     ensures failed { IfErr result (λ why. (opts : TheMountOpts) →
         MountCause opts why (D.state dev.old) (D.state dev.new)) }
 {

@@ -1,5 +1,6 @@
 // What a mount takes of memory, before it gives the device a command.
-ghost use Rattle.std.specs.Prelude.{◌≡◌, ◌*◌, ◌≤◌, length, false, true, IfOk};
+ghost use Rattle.std.specs.Prelude.{◌≡◌, ◌*◌, ◌≤◌, length, false, true, IfOk, vec_capacity};
+ghost use Rattle.zn_io.specs.declared.reading.TheConstants.{SCRATCH};
 ghost use Rattle.zn_truth.specs.declared.limits.TheConstants.{BLOCK_SIZE, MAX_ZONES};
 ghost use Rattle.zn_truth.specs.World.{geometry_of};
 ghost use Rattle.zn_model.specs.Mounting.{fresh_queue};
@@ -9,10 +10,10 @@ use std::alloc::{AllocError, Global};
 use zn_device::Zoned;
 use zn_handle::Handles;
 use zn_inode::Inodes;
-use zn_io::SCRATCH;
+use zn_io::{SCRATCH, lengthen};
 use zn_queue::Queue;
 use zn_report::layout;
-use zn_truth::{Cond, Kind, Shape, ZoneInfo, ZoneNo};
+use zn_truth::{BLOCK_SIZE, Cond, Kind, Shape, ZoneInfo, ZoneNo};
 
 /// Files of which nothing is shown yet, and room for their handles.
 #[derive(Drop)]
@@ -82,14 +83,16 @@ pub(crate) fn take_room<D: Zoned>(alloc: Global, dev: &D) -> Result<Room, AllocE
         IfOk result (λ room. ArePrepared g.kinds true g.shape room.joined.inodes room.joined.handles) }
     ensures queue { IfOk result (λ room. room.queue.queue ≡ fresh_queue) }
     ensures infos { IfOk result (λ room. length room.infos.items ≡ length (geometry_of (D.state dev.now).world).kinds) }
-    ensures scratch { IfOk result (λ room. length room.scratch.items ≡ BLOCK_SIZE * 257) }
+    ensures scratch { IfOk result (λ room. SCRATCH ≤ vec_capacity room.scratch) }
+    ensures copies { IfOk result (λ room. 2 * BLOCK_SIZE ≤ length room.scratch.items) }
 {
     let kinds = kinds_of(alloc, dev)?;
     let infos = places(alloc, dev)?;
     let single = files_of(alloc, &kinds, false, &infos, dev.shape())?;
     let joined = files_of(alloc, &kinds, true, &infos, dev.shape())?;
     let queue = Queue::new(alloc)?;
-    let scratch = vec![in alloc; 0; SCRATCH]?;
+    let mut scratch = Vec::with_capacity(alloc, SCRATCH)?;
+    lengthen(&mut scratch, 2 * BLOCK_SIZE);
     Ok(Room {
         single,
         joined,

@@ -1,5 +1,5 @@
 // Requests in flight: writes that are queued, carried out later, and told.
-ghost use Rattle.std.specs.Prelude.{◌≡◌, ◌+◌, ◌%◌, ◌<◌, ◌≤◌, ◌^◌, ◌∷◌, [], length, map, slice_index, drop, take, List, true, false, Some, Err, IfErr, IfSome, IfNone, IsErr, IfOk};
+ghost use Rattle.std.specs.Prelude.{◌≡◌, ◌+◌, ◌%◌, ◌<◌, ◌≤◌, ◌^◌, ◌∷◌, [], length, map, slice_index, drop, take, List, true, false, Some, Err, IfErr, IfSome, IfNone, IsErr, IfOk, vec_capacity};
 ghost use Rattle.zn_truth.specs.declared.limits.TheConstants.{BLOCK_SIZE};
 ghost use Rattle.zn_model.specs.declared.limits.TheConstants.{MOST_BYTES};
 ghost use Rattle.zn_model.specs.ZoneFiles.{files_of};
@@ -20,7 +20,7 @@ use crate::volume::{Volume, refusal};
 use bitflags::Flags;
 use zn_device::Zoned;
 use zn_handle::Open;
-use zn_io::{is_passed_on, recover_file, write_file};
+use zn_io::{is_passed_on, lengthen, recover_file, write_file};
 use zn_model::{Done, Handle, MOST_BYTES, Mode, Outcome, Refusal};
 use zn_queue::{Queue, Request};
 use zn_truth::{BLOCK_SIZE, DevError};
@@ -57,13 +57,15 @@ fn oldest_into(queue: &Queue, scratch: &mut [u8]) -> Option<Request>
 
 /// The same, into room that was taken once.
 fn oldest_of(queue: &Queue, scratch: &mut Vec<u8>) -> Option<Request>
-    requires { MOST_BYTES ≤ length scratch.old.items }
+    requires { MOST_BYTES ≤ vec_capacity scratch.old }
     ensures none { IfNone result (queue.now.queue.queued ≡ []) }
     ensures oldest { IfSome result (λ it. queue.now.queue.queued
         ≡ request_of it (take it.len scratch.new.items) ∷ drop 1 queue.now.queue.queued) }
     ensures len { IfSome result (λ it. it.len ≤ MOST_BYTES) }
-    ensures room { length scratch.new.items ≡ length scratch.old.items }
+    ensures long { MOST_BYTES ≤ length scratch.new.items }
+    ensures room { vec_capacity scratch.old ≤ vec_capacity scratch.new }
 {
+    lengthen(scratch, MOST_BYTES as usize);
     oldest_into(queue, scratch)
 }
 

@@ -33,12 +33,12 @@ pub struct Volume<D: Zoned + Drop> {
     pub(crate) queue: Queue,
     /// A place for each zone of the device, for reports.
     pub(crate) infos: Vec<ZoneInfo>,
-    /// Room for the blocks that cover a read, and for those of a request.
+    /// Room for the blocks that cover a read, and for those of a request. It is as long as a call has needed it.
     pub(crate) scratch: Vec<u8>,
 }
 
 impl<D: Zoned + Drop> Model for Volume<D> {
-    ghost use Rattle.std.specs.Prelude.{length};
+    ghost use Rattle.std.specs.Prelude.{length, vec_capacity};
     ghost use Rattle.zn_volume.specs.VolumeState.{VolumeState, Agrees};
 
     ghost Value = { VolumeState };
@@ -56,7 +56,7 @@ impl<D: Zoned + Drop> Model for Volume<D> {
     } };
 
     ghost invariant = { λ v. Agrees (D.state v.dev).world v.inodes v.handles v.queue.queue.queued
-        (length v.infos.items) (length v.scratch.items) };
+        (length v.infos.items) (vec_capacity v.scratch) };
 }
 
 /// A failure of the device, as a call tells it.

@@ -19,3 +19,12 @@ invariant-rest l = record {
 
 abbrev pub decreases-rest : goal.decreases-rest
 decreases-rest l = length l.bytes - l.at
+
+abbrev pub invariant-wide : goal.invariant-wide
+invariant-wide l = record {
+  within : l.at ≤ length l.bytes;
+  equal : (k : ℕ) → k < l.at → get_or l.bytes k 0 ≡ l.byte;
+}
+
+abbrev pub decreases-wide : goal.decreases-wide
+decreases-wide l = length l.bytes - l.at

@@ -1,6 +1,5 @@
-use Rattle.std.proofs.Common.{◌≡◌, ◌<◌, ◌^◌, ℕ, List, length, sym, ap, ◌∙◌, subst, arith}
+use Rattle.std.proofs.Common.{ℕ, List, sym, ap, ◌∙◌, subst}
 use Rattle.zn_truth.specs.declared.ZoneNo.{ZoneNo}
-use Rattle.zn_truth.specs.World.{geometry_of}
 use Rattle.zn_device.specs.States.{DeviceState}
 use Rattle.zn_lines.specs.Lines.{PowerLoss}
 use Rattle.zn_lines.specs.Session.{line_now}

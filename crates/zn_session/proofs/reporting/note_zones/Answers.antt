@@ -1,4 +1,4 @@
-use Rattle.std.proofs.Common.{◌≡◌, ℕ, length, ap, ◌∙◌, arith}
+use Rattle.std.proofs.Common.{◌≡◌, length, ap, ◌∙◌, arith}
 use Rattle.zn_truth.specs.World.{geometry_of}
 use Rattle.zn_device.specs.States.{DeviceState}
 use Rattle.zn_session.specs.SessionState.{held_by, zones_in}

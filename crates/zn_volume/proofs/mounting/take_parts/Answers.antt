@@ -1,4 +1,5 @@
-use Rattle.std.proofs.Common.{length, refl, sym, ap, ◌∙◌, subst}
+use Rattle.std.proofs.Common.{arith, length, refl, sym, ap, ◌∙◌, subst}
+use Rattle.std.specs.Prelude.{vec_capacity}
 use Rattle.std.proofs.lemmas.Result.{err_from_is_err_and}
 use Rattle.zn_truth.specs.Limits.{IsWithinLimits}
 use Rattle.zn_truth.specs.Truth.{geometry}
@@ -26,10 +27,10 @@ pub returns-clause-agrees : goal.returns-clause-agrees
 returns-clause-agrees g c =
     let D = g.D.Zoned in
     let same = geometry-of (g.D.Zoned.state c.args.dev.now).world ∙ sym c.in_ok-super_block.ensures.found.done.obeys.geometry in
-    fresh_agrees (D.state c.args.dev.now).world (D.state c.carry_out.new.dev).world c.in_ok-super_block.super_block.aggr_cnv c.filled.result.inodes c.filled.result.handles c.filled.result.queue.queue (length c.filled.result.infos.items) (length c.filled.result.scratch.items)
+    fresh_agrees (D.state c.args.dev.now).world (D.state c.carry_out.new.dev).world c.in_ok-super_block.super_block.aggr_cnv c.filled.result.inodes c.filled.result.handles c.filled.result.queue.queue (length c.filled.result.infos.items) (vec_capacity c.filled.result.scratch)
     (g.met.D.Zoned.is_sound c.args.dev.now) (g.met.D.Zoned.is_within c.args.dev.now) c.in_ok-super_block.ensures.found.done.obeys.geometry
     (c.filled.ensures.inodes (D.state c.args.dev.now).world.truth same (c.in_ok-super_block.ensures.infos refl))
     c.filled.ensures.cnv c.filled.ensures.known
     (ap (λ (q : QueueState). q.queue) c.filled.ensures.queue ∙ c.in-Ok.ensures.queue)
     (ap (λ v. length v.items) c.filled.ensures.infos ∙ c.in_ok-super_block.ensures.places ∙ c.in-Ok.ensures.infos)
-    (ap (λ v. length v.items) c.filled.ensures.scratch ∙ c.in_ok-super_block.ensures.room ∙ c.in-Ok.ensures.scratch)
+    (omega (arith, ap (λ v. vec_capacity v) c.filled.ensures.scratch, c.in_ok-super_block.ensures.room, c.in-Ok.ensures.scratch))

@@ -4,7 +4,7 @@ use Rattle.zn_model.specs.declared.answers.Refusal.{Refusal}
 use Rattle.zn_model.specs.CallAnswers.{Answer}
 use Rattle.zn_model.specs.Recovery.{is_passed_on}
 use Rattle.zn_model.specs.Requests.{outcome_of}
-use Rattle.zn_model.specs.Volume.{Queue, failed}
+use Rattle.zn_model.specs.Volume.{failed}
 use Rattle.zn_model.specs.ZoneFiles.{files_of}
 use Rattle.zn_queue.specs.QueueState.{with_outcome}
 use Rattle.zn_volume.specs.Causes.{CallCause}

@@ -1,4 +1,4 @@
-use Rattle.std.proofs.Common.{◌≡◌, ◌<◌, ◌≤◌, ℕ, true, false, Ok, Err, length, refl, sym, ap, subst}
+use Rattle.std.proofs.Common.{◌≡◌, ◌<◌, ◌≤◌, ℕ, true, false, Ok, Err, length, refl, sym, ap, subst, arith}
 use Rattle.zn_device.specs.States.{Ordered}
 use Rattle.zn_model.specs.declared.files.FileZones.{FileZones}
 use Rattle.zn_model.specs.declared.files.Shown.{Shown}
@@ -17,7 +17,7 @@ invariant_of-self-2 g c =
     let below = subst (λ (s : VolumeState). c.args.size ≤ capacity_at s.volume.inodes c.args.f) (sym c.self.view_is) c.requires.size in
     let idle = subst (λ (s : VolumeState). is_queued s.volume.queue c.args.f ≡ false) (sym c.self.view_is) c.requires.idle in
     let size : c.truncate_file.new.shown.size ≡ c.args.size = ap (λ (s : Shown). s.size) c.in_default.ensures.shown in
-    agrees_resized (g.D.Zoned.state c.self.inside.dev).world _ c.self.inside.inodes _ c.args.f c.truncate_file.new.shown _ c.self.inside.queue.queue _ _ _ c.in_default.ensures.done.obeys.geometry refl sequential idle c.set.ensures.set
+    agrees_resized (g.D.Zoned.state c.self.inside.dev).world _ c.self.inside.inodes _ c.args.f c.truncate_file.new.shown _ c.self.inside.queue.queue _ _ _ c.in_default.ensures.done.obeys.geometry (omega arith) sequential idle c.set.ensures.set
     (c.set.ensures.within c.self.invariant.sizes (subst (λ (n : ℕ). n ≤ capacity_at c.self.inside.inodes c.args.f) (sym size) below)) c.self.invariant
 
 pub returns-clause-cause : goal.returns-clause-cause

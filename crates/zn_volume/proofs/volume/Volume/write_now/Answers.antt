@@ -1,4 +1,4 @@
-use Rattle.std.proofs.Common.{◌≡◌, ◌+◌, ◌<◌, ◌≤◌, true, false, Ok, Err, length, refl, sym, ap, ◌∙◌, subst}
+use Rattle.std.proofs.Common.{◌≡◌, ◌+◌, ◌<◌, ◌≤◌, true, false, Ok, Err, length, refl, sym, ap, ◌∙◌, subst, arith}
 use Rattle.zn_truth.specs.declared.Shape.{Shape}
 use Rattle.zn_device.specs.States.{Ordered}
 use Rattle.zn_model.specs.declared.files.FileZones.{FileZones}
@@ -24,7 +24,7 @@ invariant_of-self-2 g c =
     ∙ ap (λ (shape : Shape). grown shape c.file-file.result c.shown-shown.result (length c.args.bytes.now)) (sym c.self.invariant.shape)
     ∙ ap (λ (file : FileZones). grown c.self.inside.inodes.shape file c.shown-shown.result (length c.args.bytes.now)) c.file-file.ensures
     ∙ ap (λ (shown : Shown). grown c.self.inside.inodes.shape (file_at c.self.inside.inodes c.args.f) shown (length c.args.bytes.now)) c.shown-shown.ensures in
-    agrees_written (g.D.Zoned.state c.self.inside.dev).world _ c.self.inside.inodes _ c.args.f (length c.args.bytes.now) c.write_file.new.shown _ c.self.inside.queue.queue _ _ _ c.in_default.ensures.done.obeys.geometry refl known behind idle grows c.set.ensures.set c.set.ensures.within c.self.invariant
+    agrees_written (g.D.Zoned.state c.self.inside.dev).world _ c.self.inside.inodes _ c.args.f (length c.args.bytes.now) c.write_file.new.shown _ c.self.inside.queue.queue _ _ _ c.in_default.ensures.done.obeys.geometry (omega arith) known behind idle grows c.set.ensures.set c.set.ensures.within c.self.invariant
 
 pub returns-clause-cause : goal.returns-clause-cause
 returns-clause-cause g c = rw (← c.self.view_is) (answered_caused _ (Ok tt) (Ok tt) _ _ c.in_default.ensures.done refl refl)
